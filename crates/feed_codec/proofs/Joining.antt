@@ -1,0 +1,132 @@
+-- Payloads that pass by themselves, taken together.
+use Rattle.std.proofs.Common.{◌≡◌, ℕ, ◌≤◌, Bool, true, false, cond, eqb, List, [], ◌∷◌, ◌++◌, length, map, Option, Some, None, Result, Ok, Err, refl, sym, ap, ◌∙◌}
+use Rattle.std.specs.Option.{option_map, option_or}
+use Rattle.std.specs.List.{flat_map, AllByRecursion, concat}
+use Rattle.std.specs.Prelude.{IfSome}
+use Rattle.std.proofs.lemmas.Bool.{le-ltb, eqb-true}
+use Rattle.rt_wire.specs.declared.fault.WireFault.{WireFault}
+use Rattle.rt_wire.specs.Fields.{IsBytes, WireField, Joins, Spells}
+use Rattle.rt_wire.specs.Placed.{PlacedField, placed_fields, placed_fields_from, moved}
+use Rattle.rt_wire.proofs.Whole.{spelled_is_read, join_is_read}
+use Rattle.feed_values.specs.declared.required.Required.{Required}
+use Rattle.feed_values.specs.declared.required.Required.TheVariants as required
+use Rattle.feed_values.specs.Schema.{Needed}
+use Rattle.feed_values.specs.Messages.{feed_message, feed_header, entity}
+use Rattle.feed_values.specs.Meaning.{fields, whole_fields, given, in_slot, payload_in, option_case}
+use Rattle.feed_values.specs.Accepted.{missing, missing_message, first_missing, header_fields, is_differential, snapshot_limit}
+use Rattle.feed_codec.specs.declared.refusal.Refusal.{Refusal}
+use Rattle.feed_codec.specs.declared.refusal.Reason.TheVariants.{MissingField, Differential}
+use Rattle.feed_codec.specs.Merging.{TextsAreUtf8}
+use Rattle.feed_codec.specs.Refusal.{refused, shifted, first_in, in_payload, first_fault, entity_fault, part_fault, missing_at, header_fault, end_fault, refusal}
+use Rattle.feed_codec.specs.Parts.{Passed, IsJoined, header_end, PartsDecide}
+use Rattle.feed_codec.proofs.Bytes.{bytes_left, bytes_right, bytes_concat, given_bytes, fields_bytes}
+use Rattle.feed_codec.proofs.Firsts.{none_faultless}
+use Rattle.feed_codec.proofs.ValidTexts.{nothing, neither, unmapped, fine_of}
+use Rattle.feed_codec.proofs.SnapshotFaults.{bytes_agree, parts_agree}
+use Rattle.feed_values.proofs.SnapshotFields.{fields_are}
+use Rattle.feed_codec.proofs.Snapshots.{complete_entities}
+
+-- ---- the fields of a join
+
+whole_append : (ps : List PlacedField) (tail : List (Result PlacedField WireFault)) → whole_fields (map (λ p. Ok p) ps ++ tail) ≡ map (λ p. p.field) ps ++ whole_fields tail
+whole_append [] tail = refl
+whole_append (p ∷ ps) tail = ap (λ (l : List WireField). p.field ∷ l) (whole_append ps tail)
+
+whole_moved : (n : ℕ) (parts : List (Result PlacedField WireFault)) → whole_fields (map (moved n) parts) ≡ whole_fields parts
+whole_moved n [] = refl
+whole_moved n (Ok p ∷ parts) = ap (λ (l : List WireField). p.field ∷ l) (whole_moved n parts)
+whole_moved n (Err f ∷ parts) = refl
+
+fields_nothing : fields [] ≡ []
+unfolding fields placed_fields placed_fields_from
+fields_nothing = refl
+
+fields_append : (l : List WireField) (front rest : List ℕ) → Joins (Spells 100) l front → fields (front ++ rest) ≡ l ++ fields rest
+unfolding fields
+fields_append l front rest j =
+    let h = spelled_is_read l front j in
+    ap whole_fields (join_is_read l front rest j ∙ ap (λ (t : List (Result PlacedField WireFault)). t ++ map (moved (length front)) (placed_fields rest)) h.all)
+    ∙ whole_append h.places (map (moved (length front)) (placed_fields rest))
+    ∙ ap (λ (t : List WireField). t ++ whole_fields (map (moved (length front)) (placed_fields rest))) h.fields
+    ∙ ap (λ (t : List WireField). l ++ t) (whole_moved (length front) (placed_fields rest))
+
+pub fields_joined : (ps : List (List ℕ)) → IsBytes (concat ps) → Passed ps → fields (concat ps) ≡ flat_map fields ps
+fields_joined [] ok h = fields_nothing
+fields_joined (p ∷ ps) ok h =
+    let m = (bytes_agree feed_header).none p (bytes_left p (concat ps) ok) h.0 in
+    fields_append m.0 p (concat ps) m.1 ∙ ap (λ (t : List WireField). t ++ fields (concat ps)) (sym (fields_are m.0 p m.1))
+    ∙ ap (λ (t : List WireField). fields p ++ t) (fields_joined ps (bytes_right p (concat ps) ok) h.1)
+
+-- ---- texts
+
+all_append : {A : Type 0} (P : A → Type 0) (xs ys : List A) → AllByRecursion P xs → AllByRecursion P ys → AllByRecursion P (xs ++ ys)
+all_append P [] ys h k = k
+all_append P (x ∷ xs) ys h k = (h.0, all_append P xs ys h.1 k)
+
+fine_all : (ps : List (List ℕ)) → Passed ps → AllByRecursion (TextsAreUtf8 feed_header) (flat_map fields ps)
+fine_all [] h = tt
+fine_all (p ∷ ps) h = all_append (TextsAreUtf8 feed_header) (fields p) (flat_map fields ps) (fine_of feed_header p h.0) (fine_all ps h.1)
+
+pub fine_joined : (parts : List ℕ) → IsBytes parts → IsJoined parts → AllByRecursion (TextsAreUtf8 feed_header) (fields parts)
+fine_joined parts ok j = rw j.2 (rw (fields_joined j.0 (rw j.2 at ok) j.1) (fine_all j.0 j.1))
+
+-- ---- a snapshot by its parts
+
+-- a payload of slot 1 is one of the header
+header_part : (number : ℕ) (p : List ℕ) → number ≡ 1 → part_fault number p ≡ nothing → first_fault feed_header p ≡ nothing
+header_part number p e h = rw e at h
+
+passed_part : (number : ℕ) (p : List ℕ) (b : Bool) → eqb number 1 ≡ b → part_fault number p ≡ nothing → (rest : List (List ℕ)) → Passed rest → Passed (option_case (cond b (Some p) None) rest (λ x. x ∷ rest))
+passed_part number p false e h rest k = k
+passed_part number p true e h rest k = (header_part number p (eqb-true number 1 e) h, k)
+
+no_part : (b : Bool) (rest : List (List ℕ)) → Passed rest → Passed (option_case (cond b None None) rest (λ x. x ∷ rest))
+no_part true rest k = k
+no_part false rest k = k
+
+passed_field : (number body : ℕ) (o : Option (List ℕ)) → option_case o nothing (λ p. option_map (shifted body) (part_fault number p)) ≡ nothing → (rest : List (List ℕ)) → Passed rest
+    → Passed (option_case (cond (eqb number 1) o None) rest (λ p. p ∷ rest))
+passed_field number body None e rest k = no_part (eqb number 1) rest k
+passed_field number body (Some p) e rest k = passed_part number p (eqb number 1) refl (unmapped body (part_fault number p) e) rest k
+
+passed_parts : (parts : List (Result PlacedField WireFault)) → first_in (in_payload part_fault) parts ≡ nothing → Passed (given (in_slot payload_in 1) (whole_fields parts))
+passed_parts [] e = tt
+passed_parts (Ok f ∷ rest) e =
+    let n = neither (in_payload part_fault f) (first_in (in_payload part_fault) rest) e in
+    passed_field f.field.number f.body (payload_in f.field.value) n.0 (given (in_slot payload_in 1) (whole_fields rest)) (passed_parts rest n.1)
+passed_parts (Err fault ∷ rest) e = tt
+
+end_case : (at : ℕ) (ps : List (List ℕ)) (lacks : Option Required) → lacks ≡ None → fields (concat ps) ≡ flat_map fields ps
+    → option_or (missing_at at (option_or (missing_message (Needed required.Header) (missing feed_header) ps) (option_or lacks None))) (cond (is_differential (flat_map fields ps)) (Some (refused at Differential)) None) ≡ header_end at ps
+end_case at [] lacks e f = refl
+end_case at (p ∷ ps) lacks e f = rw (e, f) (ap (λ o. option_or (missing_at at o) (cond (is_differential (flat_map fields (p ∷ ps))) (Some (refused at Differential)) None)) (nothing_more (missing feed_header (flat_map fields (p ∷ ps)))))
+  where
+    nothing_more : (o : Option Required) → option_or o None ≡ o
+    nothing_more None = refl
+    nothing_more (Some x) = refl
+
+entities_lack : (bytes : List ℕ) → first_in (in_payload part_fault) (placed_fields bytes) ≡ nothing → first_missing (missing entity) (given (in_slot payload_in 2) (fields bytes)) ≡ None
+unfolding fields
+entities_lack bytes e = complete_entities (placed_fields bytes) e
+
+passed_all : (bytes : List ℕ) → first_in (in_payload part_fault) (placed_fields bytes) ≡ nothing → Passed (given (in_slot payload_in 1) (fields bytes))
+unfolding fields
+passed_all bytes e = passed_parts (placed_fields bytes) e
+
+by_parts : (bytes : List ℕ) → IsBytes bytes → (o : Option Refusal) → first_in (in_payload part_fault) (placed_fields bytes) ≡ o
+    → option_or o (end_fault (length bytes) (fields bytes)) ≡ option_or o (header_end (length bytes) (given (in_slot payload_in 1) (fields bytes)))
+by_parts bytes ok (Some r) e = refl
+by_parts bytes ok None e =
+    let m = none_faultless parts_agree bytes ok e in
+    let same : fields bytes ≡ m.0 = fields_are m.0 bytes m.1 in
+    let each : AllByRecursion IsBytes (given (in_slot payload_in 1) (fields bytes)) = rw same (given_bytes 1 m.0 (fields_bytes m.0 bytes m.1 ok)) in
+    let ps = given (in_slot payload_in 1) (fields bytes) in
+    end_case (length bytes) ps (first_missing (missing entity) (given (in_slot payload_in 2) (fields bytes))) (entities_lack bytes e) (fields_joined ps (bytes_concat ps each) (passed_all bytes e))
+
+refused_by_parts : (bytes : List ℕ) → IsBytes bytes → length bytes ≤ snapshot_limit
+    → refusal bytes ≡ option_or (first_in (in_payload part_fault) (placed_fields bytes)) (header_end (length bytes) (given (in_slot payload_in 1) (fields bytes)))
+unfolding refusal
+refused_by_parts bytes ok le = rw (le-ltb snapshot_limit (length bytes) le) (by_parts bytes ok (first_in (in_payload part_fault) (placed_fields bytes)) refl)
+
+pub parts_decide : PartsDecide
+parts_decide = record { joined = fields_joined; refused = refused_by_parts }

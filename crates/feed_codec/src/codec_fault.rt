@@ -1,0 +1,29 @@
+//! Why a snapshot isn't decoded.
+ghost use Rattle.std.specs.Prelude.{◌≡◌};
+ghost use Rattle.feed_codec.specs.declared.codec_fault.CodecFault.TheVariants.{Memory, Refused};
+
+use crate::refusal::Refusal;
+use std::alloc::AllocError;
+
+/// Why a snapshot isn't decoded: it is refused, or no memory is left.
+#[derive(Clone, Copy, Debug, PartialEq, Eq)]
+pub enum CodecFault {
+    Refused(Refusal),
+    Memory,
+}
+
+impl From<AllocError> for CodecFault {
+    ghost from_gives = { λ _ e. e ≡ Memory };
+
+    fn from(_e: AllocError) -> CodecFault {
+        CodecFault::Memory
+    }
+}
+
+impl From<Refusal> for CodecFault {
+    ghost from_gives = { λ r e. e ≡ Refused r };
+
+    fn from(refusal: Refusal) -> CodecFault {
+        CodecFault::Refused(refusal)
+    }
+}

@@ -1,0 +1,92 @@
+//! What is asked of a header at the snapshot's end.
+ghost use Rattle.std.specs.Prelude.{◌≡◌, ◌∷◌, []};
+ghost use Rattle.std.specs.Option.{option_or};
+ghost use Rattle.rt_wire.specs.Placed.{placed_field};
+ghost use Rattle.feed_values.specs.Meaning.{fields, last_of};
+ghost use Rattle.feed_values.specs.Accepted.{incrementalities, header_fields};
+ghost use Rattle.feed_values.specs.Views.{natural};
+ghost use Rattle.feed_codec.specs.Refusal.{Answers, header_fault};
+
+use crate::paths::{Sought, has};
+use crate::refusal::{Reason, Refusal, Required};
+use crate::taking::take_enum;
+use rt_wire::{Fields, RawField, RawValue};
+
+/// The number of DIFFERENTIAL.
+pub const DIFFERENTIAL: u32 = 1;
+
+/// What is wrong with a header at the snapshot's end: its version is missing, or it is DIFFERENTIAL.
+///
+/// `parts` joins the payloads of the header, and `end` is the place that the answer names.
+#[tactic(auto, using(crate::proofs::Headers::header_missing))]
+pub fn check_header(parts: &[u8], end: usize) -> Result<(), Refusal>
+    ensures { Answers result (header_fault end (fields parts.now)) }
+{
+    if !has(parts, &[], Sought::Payload(1)) {
+        return Err(Refusal {
+            at: end,
+            reason: Reason::MissingField(Required::Version),
+        });
+    }
+    if last_incrementality(parts) == Some(DIFFERENTIAL) {
+        return Err(Refusal {
+            at: end,
+            reason: Reason::Differential,
+        });
+    }
+    Ok(())
+}
+
+/// The incrementality that the bytes of a header give.
+fn last_incrementality(parts: &[u8]) -> Option<u32>
+    ensures { natural result ≡ last_of (incrementalities (fields parts.now)) }
+{
+    let mut held = None;
+    let mut fields = Fields::new(parts);
+    while let Some(field) = fields.next() {
+        match field {
+            Ok(field) => take_incrementality(&mut held, field),
+            Err(_) => return held,
+        }
+    }
+    held
+}
+
+/// Holds the incrementality that a field of a header gives, where it gives one.
+fn take_incrementality(held: &mut Option<u32>, field: RawField<'_>)
+    ensures { natural held.new ≡ option_or (last_of (incrementalities ((placed_field field.entry).field ∷ []))) (natural held.old) }
+{
+    if field.number == 2 {
+        take_enum(held, field.value, 0, 1);
+    }
+}
+
+/// The incrementality that all header payloads of a snapshot give together.
+pub fn snapshot_incrementality(bytes: &[u8]) -> Option<u32>
+    ensures { natural result ≡ last_of (incrementalities (header_fields (fields bytes.now))) }
+{
+    let mut held = None;
+    let mut fields = Fields::new(bytes);
+    while let Some(field) = fields.next() {
+        match field {
+            Ok(field) => take_from_header(&mut held, field),
+            Err(_) => return held,
+        }
+    }
+    held
+}
+
+/// Holds the incrementality that a field of a snapshot gives, where it is of the header and gives one.
+fn take_from_header(held: &mut Option<u32>, field: RawField<'_>)
+    ensures { natural held.new ≡ option_or (last_of (incrementalities (header_fields ((placed_field field.entry).field ∷ [])))) (natural held.old) }
+{
+    let RawValue::Len(payload) = field.value else {
+        return;
+    };
+    if field.number != 1 {
+        return;
+    }
+    if let Some(found) = last_incrementality(payload) {
+        *held = Some(found);
+    }
+}

@@ -1,0 +1,143 @@
+//! Decoding of any message, field by field.
+ghost use Rattle.std.specs.Prelude.{◌≡◌, ◌≤◌, length, OnOk, IfOk, IfErr, IfSome, map};
+ghost use Rattle.std.specs.Option.{option_map};
+ghost use Rattle.std.specs.List.{AllByRecursion};
+ghost use Rattle.rt_wire.specs.Placed.{placed_field, value_of};
+ghost use Rattle.feed_values.specs.Schema.{Schema, Value, Optional, Rises, blank};
+ghost use Rattle.feed_codec.specs.Refusal.{Answers, payload_fault};
+ghost use Rattle.feed_values.specs.Meaning.{fields, payload_in, meaning};
+ghost use Rattle.feed_values.specs.Views.{unknown_field};
+ghost use Rattle.feed_codec.specs.Merging.{required, kept, merged, merged_message, merged_repeated, with_field, with_fields, TextsAreUtf8, TakenOr};
+
+use crate::refusal::Refusal;
+use crate::unknown::unknown_of;
+use feed_values::{Items, Unknown};
+use rt_wire::{Fields, RawField, RawValue};
+use std::alloc::{AllocError, Global};
+
+/// A kind of message: its slots, and how a value of it takes its fields one by one.
+pub trait Message: Drop {
+    ghost schema: { Schema };
+
+    ghost value: { Self → Value schema };
+
+    /// The first fault of a payload of slot `number`, with its place in the payload.
+    fn check_slot(number: u32, payload: &[u8]) -> Result<(), Refusal>
+        ensures answer { Answers result (payload_fault schema number payload.now) }
+        ensures place { IfErr result (λ r. r.at ≤ length payload.now) };
+
+    /// A message that holds nothing.
+    fn empty(alloc: Global) -> Self
+        ensures { value result ≡ blank schema };
+
+    /// Takes a field that is of a slot, and says whether it was.
+    fn merge_slot(&mut self, alloc: Global, field: &RawField<'_>) -> Result<bool, AllocError>
+        requires { TextsAreUtf8 schema (placed_field field.now).field }
+        ensures { TakenOr (merged schema (placed_field field.now).field (value self.old)) (value self.old) (value self.new) result };
+
+    /// Keeps a field that is of no slot.
+    fn keep(&mut self, field: Unknown) -> Result<(), AllocError>
+        ensures { OnOk result (value self.new ≡ kept schema (unknown_field field) (value self.old)) };
+
+    /// The slots stand in rising order of their numbers.
+    ghost rises: { Rises 0 schema };
+}
+
+#[tactic(auto, unfolding(crate::specs::Merging::with_field))]
+fn merge_field<M: Message>(
+    alloc: Global,
+    message: &mut M,
+    field: &RawField<'_>,
+) -> Result<(), AllocError>
+    requires { TextsAreUtf8 M.schema (placed_field field.now).field }
+    ensures { OnOk result (M.value message.new ≡ with_field M.schema (placed_field field.now).field (M.value message.old)) }
+{
+    if message.merge_slot(alloc, field)? {
+        return Ok(());
+    }
+    message.keep(unknown_of(alloc, field)?)
+}
+
+/// Takes every field of a list of bytes.
+pub fn merge<M: Message>(alloc: Global, message: &mut M, bytes: &[u8]) -> Result<(), AllocError>
+    requires { AllByRecursion (TextsAreUtf8 M.schema) (fields bytes.now) }
+    ensures { OnOk result (M.value message.new ≡ with_fields M.schema (fields bytes.now) (M.value message.old)) }
+{
+    let mut fields = Fields::new(bytes);
+    while let Some(field) = fields.next() {
+        match field {
+            Ok(field) => merge_field(alloc, message, &field)?,
+            Err(_) => return Ok(()),
+        }
+    }
+    Ok(())
+}
+
+/// Takes the fields of a payload into the message that an optional slot holds, or into an empty one.
+#[tactic(auto, unfolding(crate::specs::Merging::with_fields))]
+pub fn merge_optional<M: Message>(
+    alloc: Global,
+    held: &mut Option<M>,
+    value: RawValue<'_>,
+) -> Result<bool, AllocError>
+    requires { IfSome (payload_in (value_of value)) (λ p. AllByRecursion (TextsAreUtf8 M.schema) (fields p)) }
+    ensures { TakenOr (merged_message Optional (with_fields M.schema) (blank M.schema) (value_of value.entry) (option_map M.value held.old)) (option_map M.value held.old) (option_map M.value held.new) result }
+{
+    let RawValue::Len(payload) = value else {
+        return Ok(false);
+    };
+    let mut message = match held.take() {
+        Some(message) => message,
+        None => M::empty(alloc),
+    };
+    merge(alloc, &mut message, payload)?;
+    *held = Some(message);
+    Ok(true)
+}
+
+/// Takes the fields of a payload into the message of a required slot.
+#[tactic(auto, unfolding(crate::specs::Merging::with_fields))]
+pub fn merge_required<M: Message>(
+    alloc: Global,
+    held: &mut M,
+    value: RawValue<'_>,
+) -> Result<bool, AllocError>
+    requires { IfSome (payload_in (value_of value)) (λ p. AllByRecursion (TextsAreUtf8 M.schema) (fields p)) }
+    ensures { TakenOr (merged_message required (with_fields M.schema) (blank M.schema) (value_of value.entry) (M.value held.old)) (M.value held.old) (M.value held.new) result }
+{
+    let RawValue::Len(payload) = value else {
+        return Ok(false);
+    };
+    merge(alloc, held, payload)?;
+    Ok(true)
+}
+
+/// Takes the fields of a payload into a new message of a repeated slot.
+#[tactic(auto, unfolding(crate::specs::Merging::with_fields))]
+pub fn push_repeated<M: Message>(
+    alloc: Global,
+    held: &mut Items<M>,
+    value: RawValue<'_>,
+) -> Result<bool, AllocError>
+    requires { IfSome (payload_in (value_of value)) (λ p. AllByRecursion (TextsAreUtf8 M.schema) (fields p)) }
+    ensures { TakenOr (merged_repeated (with_fields M.schema) (blank M.schema) (value_of value.entry) (map M.value held.old)) (map M.value held.old) (map M.value held.new) result }
+{
+    let RawValue::Len(payload) = value else {
+        return Ok(false);
+    };
+    let mut message = M::empty(alloc);
+    merge(alloc, &mut message, payload)?;
+    held.push(message)?;
+    Ok(true)
+}
+
+/// The message that a list of bytes means.
+#[tactic(auto, using(crate::proofs::Meanings::taken_all))]
+pub fn message_of<M: Message>(alloc: Global, bytes: &[u8]) -> Result<M, AllocError>
+    requires { AllByRecursion (TextsAreUtf8 M.schema) (fields bytes.now) }
+    ensures { IfOk result (λ message. M.value message ≡ meaning M.schema (fields bytes.now)) }
+{
+    let mut message = M::empty(alloc);
+    merge(alloc, &mut message, bytes)?;
+    Ok(message)
+}

@@ -1,0 +1,150 @@
+ghost use Rattle.std.specs.Prelude.{◌≡◌, ◌%◌, ◌^◌, IfOk, IfSome, List, ℕ, pos};
+ghost use Rattle.std.specs.Option.{option_map};
+ghost use Rattle.feed_values.specs.Schema as schema;
+ghost use Rattle.feed_codec.specs.Merging.{required, merged_scalar, merged_text, Took, TakenOr};
+ghost use Rattle.feed_values.specs.Meaning.{payload_in};
+ghost use Rattle.std.specs.Str.{IsUtf8};
+ghost use Rattle.feed_values.specs.Views.{natural, truth};
+ghost use Rattle.rt_wire.specs.Placed.{value_of};
+
+use feed_values::Text;
+use rt_wire::RawValue;
+use std::alloc::{AllocError, Global};
+
+fn low_32(n: u64) -> u32
+    ensures { result ≡ n % 2 ^ 32 }
+{
+    (n % (1 << 32)) as u32
+}
+
+pub fn take_bool(held: &mut Option<bool>, value: RawValue<'_>) -> bool
+    ensures { Took (merged_scalar schema.Optional schema.Bool (value_of value.entry)) (truth held.old) (truth held.new) result }
+{
+    let RawValue::Varint(n) = value else {
+        return false;
+    };
+    *held = Some(n != 0);
+    true
+}
+
+pub fn take_u32(held: &mut Option<u32>, value: RawValue<'_>) -> bool
+    ensures { Took (merged_scalar schema.Optional schema.U32 (value_of value.entry)) (natural held.old) (natural held.new) result }
+{
+    let RawValue::Varint(n) = value else {
+        return false;
+    };
+    *held = Some(low_32(n));
+    true
+}
+
+pub fn take_i32(held: &mut Option<i32>, value: RawValue<'_>) -> bool
+    ensures { Took (merged_scalar schema.Optional schema.I32 (value_of value.entry)) held.old held.new result }
+{
+    let RawValue::Varint(n) = value else {
+        return false;
+    };
+    *held = Some(low_32(n).cast_signed());
+    true
+}
+
+pub fn take_i64(held: &mut Option<i64>, value: RawValue<'_>) -> bool
+    ensures { Took (merged_scalar schema.Optional schema.I64 (value_of value.entry)) held.old held.new result }
+{
+    let RawValue::Varint(n) = value else {
+        return false;
+    };
+    *held = Some(n.cast_signed());
+    true
+}
+
+pub fn take_enum(held: &mut Option<u32>, value: RawValue<'_>, low: u32, high: u32) -> bool
+    ensures { Took (merged_scalar schema.Optional (schema.Enum low high) (value_of value.entry)) (natural held.old) (natural held.new) result }
+{
+    let RawValue::Varint(n) = value else {
+        return false;
+    };
+    let n = low_32(n);
+    if n < low || n > high {
+        return false;
+    }
+    *held = Some(n);
+    true
+}
+
+pub fn take_text(
+    alloc: Global,
+    held: &mut Option<Text>,
+    value: RawValue<'_>,
+) -> Result<bool, AllocError>
+    requires { IfSome (payload_in (value_of value)) IsUtf8 }
+    ensures { TakenOr (merged_text schema.Optional (value_of value.entry)) held.old held.new result }
+{
+    let RawValue::Len(payload) = value else {
+        return Ok(false);
+    };
+    match str::from_utf8(payload) {
+        Ok(valid) => {
+            let mut text = Text::new(alloc);
+            text.push(valid)?;
+            *held = Some(text);
+            Ok(true)
+        }
+        Err(_) => unreachable!(),
+    }
+}
+
+pub fn take_required_text(
+    alloc: Global,
+    held: &mut Text,
+    value: RawValue<'_>,
+) -> Result<bool, AllocError>
+    requires { IfSome (payload_in (value_of value)) IsUtf8 }
+    ensures { TakenOr (merged_text required (value_of value.entry)) held.old held.new result }
+{
+    let mut text = None;
+    let taken = take_text(alloc, &mut text, value)?;
+    if let Some(text) = text {
+        *held = text;
+    }
+    Ok(taken)
+}
+
+pub fn take_u64(held: &mut Option<u64>, value: RawValue<'_>) -> bool
+    ensures { Took (merged_scalar schema.Optional schema.U64 (value_of value.entry)) (natural held.old) (natural held.new) result }
+{
+    let RawValue::Varint(n) = value else {
+        return false;
+    };
+    *held = Some(n);
+    true
+}
+
+pub fn take_bits32(held: &mut Option<u32>, value: RawValue<'_>) -> bool
+    ensures { Took (merged_scalar schema.Optional schema.Bits32 (value_of value.entry)) (natural held.old) (natural held.new) result }
+{
+    let RawValue::Fixed32(n) = value else {
+        return false;
+    };
+    *held = Some(n);
+    true
+}
+
+pub fn take_bits64(held: &mut Option<u64>, value: RawValue<'_>) -> bool
+    ensures { Took (merged_scalar schema.Optional schema.Bits64 (value_of value.entry)) (natural held.old) (natural held.new) result }
+{
+    let RawValue::Fixed64(n) = value else {
+        return false;
+    };
+    *held = Some(n);
+    true
+}
+
+pub fn take_required_bits32(held: &mut u32, value: RawValue<'_>) -> bool
+    ensures { Took (merged_scalar required schema.Bits32 (value_of value.entry)) (pos held.old) (pos held.new) result }
+{
+    let RawValue::Fixed32(n) = value else {
+        return false;
+    };
+    *held = n;
+    true
+}

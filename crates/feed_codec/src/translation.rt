@@ -1,0 +1,82 @@
+//! Texts in several languages, as kinds of message.
+ghost use Rattle.std.proofs.Common.{rules};
+ghost use Rattle.feed_values.specs.Messages.{translated_string, translation};
+ghost use Rattle.feed_values.specs.Views.{translated_string_value, translation_value};
+
+use crate::checking::{check_message, check_text};
+use crate::message::{Message, push_repeated};
+use crate::refusal::Refusal;
+use crate::taking::{take_required_text, take_text};
+use feed_values::{Items, Text, TranslatedString, Translation, Unknown};
+use rt_wire::RawField;
+use std::alloc::{AllocError, Global};
+
+impl Message for TranslatedString {
+    ghost schema = { translated_string };
+
+    ghost value = { translated_string_value };
+
+    #[tactic(auto, unfolding(crate::specs::Refusal::first_fault))]
+    fn check_slot(number: u32, payload: &[u8]) -> Result<(), Refusal> {
+        match number {
+            1 => check_message::<Translation>(payload),
+            _ => Ok(()),
+        }
+    }
+
+    fn empty(alloc: Global) -> TranslatedString {
+        TranslatedString {
+            translation: Items::new(alloc),
+            unknown: Items::new(alloc),
+        }
+    }
+
+    #[tactic(auto, unfolding(crate::specs::Merging::with_fields))]
+    fn merge_slot(&mut self, alloc: Global, field: &RawField<'_>) -> Result<bool, AllocError> {
+        match field.number {
+            1 => push_repeated(alloc, &mut self.translation, field.value),
+            _ => Ok(false),
+        }
+    }
+
+    fn keep(&mut self, field: Unknown) -> Result<(), AllocError> {
+        Ok(self.unknown.push(field)?)
+    }
+
+    ghost rises = { Prim.search rules };
+}
+
+impl Message for Translation {
+    ghost schema = { translation };
+
+    ghost value = { translation_value };
+
+    fn check_slot(number: u32, payload: &[u8]) -> Result<(), Refusal> {
+        match number {
+            1 | 2 => check_text(payload),
+            _ => Ok(()),
+        }
+    }
+
+    fn empty(alloc: Global) -> Translation {
+        Translation {
+            text: Text::new(alloc),
+            language: None,
+            unknown: Items::new(alloc),
+        }
+    }
+
+    fn merge_slot(&mut self, alloc: Global, field: &RawField<'_>) -> Result<bool, AllocError> {
+        match field.number {
+            1 => take_required_text(alloc, &mut self.text, field.value),
+            2 => take_text(alloc, &mut self.language, field.value),
+            _ => Ok(false),
+        }
+    }
+
+    fn keep(&mut self, field: Unknown) -> Result<(), AllocError> {
+        Ok(self.unknown.push(field)?)
+    }
+
+    ghost rises = { Prim.search rules };
+}
