@@ -1,0 +1,17 @@
+pub mod Left
+pub mod Steps
+pub mod TrimLemmas
+pub mod PlaceLemmas
+pub mod ColumnLemmas
+pub mod KeyedLemmas
+pub mod MapLemmas
+pub mod DayLemmas
+pub mod LawLemmas
+pub mod KeyLemmas
+pub mod SequenceLemmas
+pub mod StopLemmas
+pub mod VisitLemmas
+pub mod FolderLemmas
+pub mod NumberLemmas
+pub mod TwiceLemmas
+pub mod TimetableLemmas

@@ -1,0 +1,42 @@
+-- Entries by text, and the finite map that they make.
+use Rattle.std.proofs.Common.{◌≡◌, List, Option, Some, None, String, Global, string_bytes, string_eq, cond, Bool, true, false, is_some, option_map, nat_cmp, refl, sym, ap, ◌∙◌}
+use Rattle.std.proofs.lemmas.Cmp.{nat_list_cmp_total}
+use Rattle.std.proofs.lemmas.Map.Text.{hash_map_updates_text, is_eq-slice_cmp}
+use Rattle.std.specs.FinMap.{IsAntisymmetric, get, insert, nat_cmp-IsAntisymmetric, slice_cmp-IsAntisymmetric}
+use Rattle.std.specs.Map.{lookup}
+use Rattle.std.specs.Str.{bytes_eq}
+use Rattle.indexmap.specs.IndexMap.{IndexMap, UpdatesBy}
+use Rattle.timetable.specs.Maps.{ByText, Text, table_of, text_cmp}
+use Rattle.timetable.proofs.KeyedLemmas.{IsKeyed, from_entries-keyed, lookup-keyed}
+
+abbrev pub has_text : Text → String Global → Bool
+has_text q k = bytes_eq q (string_bytes k)
+
+pub text_cmp-IsAntisymmetric : IsAntisymmetric text_cmp
+text_cmp-IsAntisymmetric = slice_cmp-IsAntisymmetric nat_cmp-IsAntisymmetric
+
+by_text : IsKeyed text_cmp (λ k. string_bytes k) has_text
+by_text = record { total = nat_list_cmp_total; same = text_cmp-IsAntisymmetric; tests = λ q k. is_eq-slice_cmp q (string_bytes k) }
+
+-- the map has at a text what a scan of the entries finds
+pub get_text : {V : Type 0} (es : List (String Global × V)) (q : Text) → lookup (has_text q) es ≡ get (table_of es) q
+get_text es q = lookup-keyed text_cmp (λ k. string_bytes k) has_text by_text es q
+
+-- a write at a text is an insert
+pub update_text : {V S : Type 0} (m n : IndexMap (String Global) V S) (bs : Text) (w : V) → UpdatesBy string_eq (has_text bs) m n (Some w) → table_of n.entries ≡ insert (table_of m.entries) bs w
+update_text m n bs w h = from_entries-keyed text_cmp (λ k. string_bytes k) has_text by_text m.entries n.entries bs w (λ q.
+    hash_map_updates_text bs m n (Some w) h q ∙ ap (λ b. cond b (Some w) (lookup (has_text q) m.entries)) (sym (is_eq-slice_cmp bs q)))
+
+-- whether a text is there, by a scan of the entries
+pub is_some-get : {V : Type 0} (es : List (String Global × V)) (q : Text) (m : ByText V) (there : Bool) → table_of es ≡ m → there ≡ is_some (lookup (has_text q) es) → is_some (get m q) ≡ there
+is_some-get es q m there view scanned = sym (scanned ∙ ap is_some (get_text es q ∙ ap (λ t. get t q) view))
+
+pub none_of : {X : Type 0} (o : Option X) → is_some o ≡ false → o ≡ None
+none_of None h = refl
+none_of (Some x) h = cc h
+
+-- a group that has grown is put back under its id
+pub put_back : {V : Type 0} (m : ByText V) (q : Text) (v : V) (more : Option V) (now : ByText V) (new : Bool) → more ≡ cond new (Some v) None → insert m q v ≡ now
+    → option_map (insert m q) more ≡ cond new (Some now) None
+put_back m q v more now true grown same = rw grown (ap Some same)
+put_back m q v more now false grown same = rw grown refl

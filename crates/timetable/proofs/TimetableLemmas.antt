@@ -1,0 +1,71 @@
+-- Timetables that were read.
+use Rattle.std.proofs.Common.{◌≡◌, ◌<◌, ◌⊎◌, inl, inr, ℕ, List, [], ◌∷◌, Bor, Option, Some, None, Result, Ok, IfSome, length, option_map, unwrap_or, refl, sym, ap, ◌∙◌, arith}
+use Rattle.std.specs.FinMap.{empty, entries, get}
+use Rattle.std.specs.Option.{option_and_then, option_copied}
+use Rattle.rt_outside.specs.Store.{Contents}
+use Rattle.timetable.specs.Cells.{then_with}
+use Rattle.timetable.specs.Folders.{IsRead}
+use Rattle.timetable.specs.Laws.{FollowsRows}
+use Rattle.timetable.specs.Maps.{Text}
+use Rattle.timetable.specs.Lookups.{IsServiceOf, trip_row}
+use Rattle.timetable.specs.Numbers.{HasNumber}
+use Rattle.timetable.specs.Rows.{Record, records_of}
+use Rattle.timetable.specs.Stops.{HaveStops, HoldsVisits, StopTable, visit_key, visits}
+use Rattle.timetable.specs.Tables.{absent_table, table_in, table_of_records, without_mark}
+use Rattle.timetable.specs.Times.{BySequence, keyed}
+use Rattle.timetable.specs.Timetables.{KnowsTwice, Loaded, loaded_from, tables_from, tables_of, trip_times}
+use Rattle.timetable.specs.declared.items.Trip.{Trip}
+use Rattle.timetable.specs.declared.stop_time.StopTime.{StopTime}
+use Rattle.timetable.specs.declared.timetable.ServiceNo.{ServiceNo}
+use Rattle.timetable.specs.declared.timetable.Timetable.{Timetable}
+use Rattle.timetable.proofs.LawLemmas.{follows_rows}
+use Rattle.timetable.proofs.SequenceLemmas.{entries-empty}
+use Rattle.timetable.proofs.VisitLemmas.{keeps_visits}
+
+law : FollowsRows visits visit_key.same HoldsVisits
+law = follows_rows visits visit_key.same HoldsVisits keeps_visits
+
+-- stop times that were read have stops
+pub stops_of_read : (table : StopTable) → IsRead visits table → HaveStops table
+stops_of_read table (inl e) = cc e
+stops_of_read table (inr read) = by (records_of (without_mark read.0)) read.1
+  where
+    by : (records : List Record) → table_of_records visits records ≡ Ok table → HaveStops table
+    by [] e = let a = law.accepted [] [] table e in a.says.stops
+    by (header ∷ records) e = let a = law.accepted header records table e in a.says.stops
+
+pub no_stops : HaveStops visits.empty
+no_stops = let empty = keeps_visits.empty in empty.stops
+
+pub knows_none : (table : StopTable) → KnowsTwice [] table []
+knows_none table = record { size = refl; known = λ n id number. cc number }
+
+pub tables_of_loaded : (folder : List ℕ) (loaded : Loaded) (told : Option Contents) → IfSome told (λ contents. loaded_from folder contents ≡ Ok loaded)
+    → IfSome told (λ contents. tables_of folder contents ≡ Ok (tables_from loaded))
+tables_of_loaded folder loaded None h = tt
+tables_of_loaded folder loaded (Some contents) h = ap (λ r. then_with r (λ l. Ok (tables_from l))) h
+
+-- a stop time that is held has a stop
+pub has_stop : (table : StopTable) → HaveStops table → (id : Text) (trip : BySequence) (sequence : ℕ) (time : StopTime) → Some trip ≡ get table.times id → get trip sequence ≡ Some time
+    → time.stop < length table.stops
+has_stop table have id trip sequence time held at = have id sequence time (ap (option_and_then (λ t. get t sequence)) (sym held) ∙ at)
+
+-- and so has one that a look-up answers
+pub found_stop : (table : StopTable) → HaveStops table → (id : Text) (trip : BySequence) (sequence : ℕ) (found : Option (Bor StopTime)) → Some trip ≡ get table.times id
+    → option_copied found ≡ get trip sequence → IfSome found (λ time. time.now.stop < length table.stops)
+found_stop table have id trip sequence None held at = tt
+found_stop table have id trip sequence (Some time) held at = has_stop table have id trip sequence time.now held (sym at)
+
+-- a trip that the file names nowhere has no stop times
+pub no_times : (table : StopTable) (id : Text) → None ≡ get table.times id → keyed [] ≡ entries (trip_times table id)
+no_times table id none = sym entries-empty ∙ ap (λ o. entries (unwrap_or o empty)) none
+
+-- a number has one id
+pub one_id : {G : Type 0} (entries : List (Text × G)) (n : ℕ) (p q : Text) → HasNumber entries n p → HasNumber entries n q → p ≡ q
+one_id entries n p q hp hq = ap (λ o. unwrap_or o []) (sym hp ∙ hq)
+
+-- the service of a trip's row
+pub service_named : (timetable : Timetable) (service : ServiceNo) (id : Text) (row : Option Trip) → HasNumber timetable.trips service.trip id → trip_row timetable id ≡ row
+    → IfSome row (λ r. IsServiceOf timetable service r.service)
+service_named timetable service id None number is = tt
+service_named timetable service id (Some r) number is = record { trip = id; number = number; row = ap (option_map (λ x. x.service)) is }

@@ -1,0 +1,62 @@
+-- The files whose tables go by one id.
+use Rattle.std.specs.Prelude.{List, [], ◌∷◌, ◌++◌, Bool, true, Option, Some, None, Result, option_map}
+use Rattle.std.specs.FinMap.{empty, get}
+use Rattle.std.specs.Ordering.{int_eq}
+use Rattle.timetable.specs.Cells.{Cells}
+use Rattle.timetable.specs.Groups.{ByDay, exceptions}
+use Rattle.timetable.specs.Items.{agency_row, exception_row, frequency_row, route_row, service_row, stop_row, trip_row}
+use Rattle.timetable.specs.Laws.{Keys}
+use Rattle.timetable.specs.Maps.{ByText, Grouping, put_under}
+use Rattle.timetable.specs.Tables.{Format}
+use Rattle.timetable.specs.declared.fault.CellFault.{CellFault}
+use Rattle.timetable.specs.declared.file.File.{File}
+use Rattle.timetable.specs.declared.file.File.TheVariants as file
+use Rattle.timetable.specs.declared.grouped.Only.{Only}
+use Rattle.timetable.specs.declared.items.Agency.{Agency}
+use Rattle.timetable.specs.declared.items.Exception.{Exception}
+use Rattle.timetable.specs.declared.items.Frequency.{Frequency}
+use Rattle.timetable.specs.declared.items.Route.{Route}
+use Rattle.timetable.specs.declared.items.ServiceRow.{ServiceRow}
+use Rattle.timetable.specs.declared.items.Stop.{Stop}
+use Rattle.timetable.specs.declared.items.Trip.{Trip}
+use Rattle.timetable.specs.declared.row.Row.{Row}
+
+-- a file whose rows are put under their ids
+abbrev pub by_id : {I G : Type 0} → File → (Cells → Result (Row I) CellFault) → Grouping I G → Format (Row I) (ByText G)
+by_id source row_of grouping = record { file = source; row_of = row_of; empty = empty; added = λ groups row. put_under grouping groups row.id row.item }
+
+-- an id has one row
+abbrev pub only : {I : Type 0} → Grouping I (Only I)
+only = record { first = λ item. record { item = item }; more = λ _ _. None }
+
+abbrev pub only_key : {I : Type 0} → Keys I (Only I) I
+only_key = record { same = λ _ _. true; record_of = λ item. item; held = λ only _. Some only.item }
+
+-- an id may have any rows, in the order of the file
+abbrev pub listing : {I : Type 0} → Grouping I (List I)
+listing = record { first = λ item. item ∷ []; more = λ items item. Some (items ++ item ∷ []) }
+
+-- a service has one exception on each day
+abbrev pub day_key : Keys Exception ByDay Bool
+day_key = record { same = λ a b. int_eq a.day.number b.day.number; record_of = λ item. item.added; held = λ days item. get days item.day.number }
+
+abbrev pub agencies : Format (Row Agency) (ByText (Only Agency))
+agencies = by_id file.Agency agency_row only
+
+abbrev pub stops : Format (Row Stop) (ByText (Only Stop))
+stops = by_id file.Stops stop_row only
+
+abbrev pub routes : Format (Row Route) (ByText (Only Route))
+routes = by_id file.Routes route_row only
+
+abbrev pub trips : Format (Row Trip) (ByText (Only Trip))
+trips = by_id file.Trips trip_row only
+
+abbrev pub services : Format (Row ServiceRow) (ByText (Only ServiceRow))
+services = by_id file.Calendar service_row only
+
+abbrev pub dates : Format (Row Exception) (ByText ByDay)
+dates = by_id file.CalendarDates exception_row exceptions
+
+abbrev pub departures : Format (Row Frequency) (ByText (List Frequency))
+departures = by_id file.Frequencies frequency_row listing

@@ -1,0 +1,87 @@
+-- Timetables as finite maps.
+use Rattle.std.specs.Prelude.{◌≡◌, ◌==◌, ◌||◌, ◌++◌, ℕ, List, [], ◌∷◌, Bool, false, length, map, slice_index_or, Result, Ok, unwrap_or}
+use Rattle.std.specs.List.{list_any}
+use Rattle.std.specs.FinMap.{empty, entries, get}
+use Rattle.rt_outside.specs.Store.{Contents}
+use Rattle.timetable.specs.Cells.{then_with}
+use Rattle.timetable.specs.Folders.{both, table_of_file}
+use Rattle.timetable.specs.Formats.{agencies, dates, departures, routes, services, stops, trips}
+use Rattle.timetable.specs.Groups.{ByDay}
+use Rattle.timetable.specs.Maps.{ByText, Text}
+use Rattle.timetable.specs.Numbers.{HasNumber}
+use Rattle.timetable.specs.Stops.{StopTable, visits}
+use Rattle.timetable.specs.Times.{BySequence}
+use Rattle.timetable.specs.declared.fault.LoadFault.{LoadFault}
+use Rattle.timetable.specs.declared.grouped.Only.{Only}
+use Rattle.timetable.specs.declared.items.Agency.{Agency}
+use Rattle.timetable.specs.declared.items.Frequency.{Frequency}
+use Rattle.timetable.specs.declared.items.Route.{Route}
+use Rattle.timetable.specs.declared.items.ServiceRow.{ServiceRow}
+use Rattle.timetable.specs.declared.items.Stop.{Stop}
+use Rattle.timetable.specs.declared.items.Trip.{Trip}
+use Rattle.timetable.specs.declared.stop_time.StopTime.{StopTime}
+
+-- what the eight files say
+pub record Tables : Type 0 where
+  pub agencies : ByText (Only Agency)
+  pub stops : ByText (Only Stop)
+  pub routes : ByText (Only Route)
+  pub trips : ByText (Only Trip)
+  pub stop_times : StopTable
+  pub services : ByText (Only ServiceRow)
+  pub exceptions : ByText ByDay
+  pub frequencies : ByText (List Frequency)
+
+-- a timetable file has at most so many bytes
+abbrev pub limit : ℕ
+limit = 536_870_912
+
+-- the tables in the order in which their files are read
+abbrev pub Loaded : Type 0
+Loaded = ByText (Only Agency) × (ByText (Only Stop) × (ByText (Only Route) × (ByText (Only Trip) × (StopTable × (ByText (Only ServiceRow) × (ByText ByDay × ByText (List Frequency)))))))
+
+abbrev pub tables_from : Loaded → Tables
+tables_from (agency, (stop, (route, (trip, (visit, (service, (date, departure))))))) = record {
+  agencies = agency;
+  stops = stop;
+  routes = route;
+  trips = trip;
+  stop_times = visit;
+  services = service;
+  exceptions = date;
+  frequencies = departure;
+}
+
+-- the files of a folder, one after the other, or the first fault
+abbrev pub loaded_from : List ℕ → Contents → Result Loaded LoadFault
+loaded_from folder contents =
+    both (table_of_file agencies limit folder contents)
+    (both (table_of_file stops limit folder contents)
+    (both (table_of_file routes limit folder contents)
+    (both (table_of_file trips limit folder contents)
+    (both (table_of_file visits limit folder contents)
+    (both (table_of_file services limit folder contents)
+    (both (table_of_file dates limit folder contents)
+    (table_of_file departures limit folder contents)))))))
+
+-- the tables of a folder, or its first fault
+abbrev pub tables_of : List ℕ → Contents → Result Tables LoadFault
+tables_of folder contents = then_with (loaded_from folder contents) (λ loaded. Ok (tables_from loaded))
+
+-- the stop times of a trip, none where there is no such trip
+abbrev pub trip_times : StopTable → Text → BySequence
+trip_times table id = unwrap_or (get table.times id) empty
+
+-- whether some stop time has a stop of those before it, or of those seen already
+abbrev pub returns_to : List ℕ → List StopTime → Bool
+returns_to seen [] = false
+returns_to seen (time ∷ times) = list_any (λ stop. time.stop == stop) seen || returns_to (seen ++ time.stop ∷ []) times
+
+-- whether a trip visits some stop twice
+abbrev pub visits_twice : BySequence → Bool
+visits_twice times = returns_to [] (map (λ entry. entry.1) (entries times))
+
+-- for each trip, by number, whether it visits some stop twice
+pub record KnowsTwice (trips : List (Text × Only Trip)) (table : StopTable) (twice : List Bool) : Type 0 where
+  pub size : length twice ≡ length trips
+  pub known : (n : ℕ) (id : Text) → HasNumber trips n id → slice_index_or twice n false ≡ visits_twice (trip_times table id)

@@ -1,0 +1,141 @@
+//! Timetable files of a folder.
+
+ghost use Rattle.std.specs.Prelude.{◌≡◌, ◌≤◌, IfOk, IfSome, Err, string_bytes};
+ghost use Rattle.rt_outside.specs.Causes.{Rose};
+ghost use Rattle.rt_outside.specs.Store.{contents_told};
+ghost use Rattle.timetable.specs.Folders.{Answers, IsRead, path, table_of_file};
+ghost use Rattle.timetable.specs.declared.fault.LoadFault.TheVariants as fault;
+ghost use Rattle.timetable.specs.declared.file.File.{File};
+
+use crate::fault::LoadFault;
+use crate::file::File;
+use crate::grouped::{Group, Grouped};
+use crate::row::Item;
+use crate::stop_times::StopTimes;
+use crate::table::{Table, absent_table, read_table};
+use rt_outside::{Files, ReadEnd, read_whole};
+use std::alloc::{AllocError, Global};
+
+/// The name of a file in a folder.
+fn path(alloc: Global, folder: &str, file: File) -> Result<String, AllocError>
+    ensures { IfOk result (λ name. string_bytes name ≡ path folder.now file) }
+{
+    format!(in alloc; "{folder}/{}", file.name())
+}
+
+/// One table, or several that are read one after the other.
+pub(crate) trait Source: Sized {
+    ghost use Rattle.std.specs.Prelude.{◌≡◌, ◌≤◌, ℕ, List, Result, IfOk, IfSome, Err};
+    ghost use Rattle.rt_outside.specs.Causes.{Rose};
+    ghost use Rattle.rt_outside.specs.Store.{Contents, contents_told};
+    ghost use Rattle.timetable.specs.Folders.{Answers, path};
+    ghost use Rattle.timetable.specs.declared.fault.LoadFault.{LoadFault};
+    ghost use Rattle.timetable.specs.declared.fault.LoadFault.TheVariants as fault;
+    ghost use Rattle.timetable.specs.declared.file.File.{File};
+
+    ghost tables: { ℕ → List ℕ → Contents → Result Self LoadFault };
+
+    ghost read: { Self → Type 0 };
+
+    /// Reads the files from a folder, none of more than `limit` bytes.
+    fn load<F: Files>(
+        alloc: Global,
+        files: &mut F,
+        folder: &str,
+        limit: usize,
+    ) -> Result<Self, LoadFault>
+        ensures tables { IfSome (contents_told (F.told files.old))
+            (λ contents. Answers (tables limit folder.now contents) result) }
+        ensures read { IfOk result read }
+        ensures contents { contents_told (F.told files.new) ≡ contents_told (F.told files.old) }
+        ensures later { F.faults files.old ≤ F.faults files.new }
+        ensures cause { (file : File) → result ≡ Err (fault.ReadFault file)
+            → Rose (F.faults files.old) (F.faults files.new) }
+        ensures asked { (file : File) → result ≡ Err (fault.ReadFault file)
+            → IfSome (F.asked files.new) (λ last. last ≡ path folder.now file) };
+}
+
+impl<G: Group + Drop> Source for Grouped<G>
+where
+    G::Item: Item,
+{
+    ghost use Rattle.timetable.specs.Folders.{IsRead, table_of_file};
+    ghost use Rattle.timetable.specs.Formats.{by_id};
+
+    ghost tables = { λ limit folder contents. table_of_file (by_id G.Item.source G.Item.row_of G.grouping) limit folder contents };
+
+    ghost read = { IsRead (by_id G.Item.source G.Item.row_of G.grouping) };
+
+    fn load<F: Files>(
+        alloc: Global,
+        files: &mut F,
+        folder: &str,
+        limit: usize,
+    ) -> Result<Grouped<G>, LoadFault> {
+        load_table(alloc, files, folder, limit)
+    }
+}
+
+impl Source for StopTimes {
+    ghost use Rattle.timetable.specs.Folders.{IsRead, table_of_file};
+    ghost use Rattle.timetable.specs.Stops.{visits};
+
+    ghost tables = { λ limit folder contents. table_of_file visits limit folder contents };
+
+    ghost read = { IsRead visits };
+
+    fn load<F: Files>(
+        alloc: Global,
+        files: &mut F,
+        folder: &str,
+        limit: usize,
+    ) -> Result<StopTimes, LoadFault> {
+        load_table(alloc, files, folder, limit)
+    }
+}
+
+impl<A: Source + Drop, B: Source + Drop> Source for (A, B) {
+    ghost use Rattle.timetable.specs.Folders.{both};
+
+    ghost tables = { λ limit folder contents. both (A.tables limit folder contents) (B.tables limit folder contents) };
+
+    ghost read = { λ pair. A.read pair.0 × B.read pair.1 };
+
+    fn load<F: Files>(
+        alloc: Global,
+        files: &mut F,
+        folder: &str,
+        limit: usize,
+    ) -> Result<(A, B), LoadFault> {
+        let first = A::load(alloc, files, folder, limit)?;
+        let second = B::load(alloc, files, folder, limit)?;
+        Ok((first, second))
+    }
+}
+
+/// Reads the file of a table from a folder.
+pub(crate) fn load_table<F: Files, T: Table + Drop>(
+    alloc: Global,
+    files: &mut F,
+    folder: &str,
+    limit: usize,
+) -> Result<T, LoadFault>
+    ensures table { IfSome (contents_told (F.told files.old))
+        (λ contents. Answers (table_of_file T.format limit folder.now contents) result) }
+    ensures read { IfOk result (IsRead T.format) }
+    ensures contents { contents_told (F.told files.new) ≡ contents_told (F.told files.old) }
+    ensures later { F.faults files.old ≤ F.faults files.new }
+    ensures cause { (file : File) → result ≡ Err (fault.ReadFault file)
+        → Rose (F.faults files.old) (F.faults files.new) }
+    ensures asked { (file : File) → result ≡ Err (fault.ReadFault file)
+        → IfSome (F.asked files.new) (λ last. last ≡ path folder.now file) }
+{
+    let name = path(alloc, folder, T::file())?;
+    match read_whole(alloc, files, name.as_str(), limit) {
+        Ok(bytes) => read_table(alloc, bytes.as_slice()),
+        Err(ReadEnd::Absent) => absent_table(alloc),
+        Err(ReadEnd::TooLarge) => Err(LoadFault::TooLarge(T::file())),
+        Err(ReadEnd::ReadFault) => Err(LoadFault::ReadFault(T::file())),
+        Err(ReadEnd::Memory) => Err(LoadFault::Memory),
+    }
+}

@@ -1,0 +1,110 @@
+//! What stands under one service or trip id.
+
+ghost use Rattle.std.specs.Prelude.{◌≡◌, OnOk};
+ghost use Rattle.std.specs.FinMap as map;
+
+use crate::grouped::Group;
+use crate::items::{Exception, Frequency};
+use indexmap::IndexMap;
+use rt_day::Day;
+use std::alloc::{AllocError, Global};
+use std::marker::Model;
+
+/// The exceptions of a service: for each day whether it is added. Contracts see a finite map from the
+/// numbers of the days.
+#[derive(Drop)]
+pub(crate) struct Exceptions {
+    days: IndexMap<Day, bool>,
+}
+
+impl Model for Exceptions {
+    ghost use Rattle.std.specs.Coded.{coded_bool, coded_ℤ};
+    ghost use Rattle.std.specs.FinMap.{code};
+    ghost use Rattle.timetable.specs.Groups.{ByDay, days_of};
+
+    ghost Value = { ByDay };
+
+    ghost coded = { code coded_ℤ coded_bool };
+
+    ghost view = { λ exceptions. days_of exceptions.days.entries };
+}
+
+impl Exceptions {
+    /// Whether the day is added or removed; None where it is no exception.
+    pub fn get(&self, day: Day) -> Option<bool>
+        ensures { result ≡ map.get self.now day.number }
+    {
+        self.days.get(&day).copied()
+    }
+
+    fn write(&mut self, day: Day, added: bool) -> Result<(), AllocError>
+        ensures { OnOk result (self.new ≡ map.insert self.old day.number added) }
+    {
+        self.days.insert(day, added)?;
+        Ok(())
+    }
+}
+
+impl Group for Exceptions {
+    ghost use Rattle.timetable.specs.Groups.{exceptions};
+
+    type Item = Exception;
+
+    ghost grouping = { exceptions };
+
+    fn first(alloc: Global, item: Exception) -> Result<Exceptions, AllocError> {
+        let mut days = IndexMap::new(alloc);
+        days.insert(item.day, item.added)?;
+        Ok(Exceptions { days })
+    }
+
+    fn put(&mut self, item: Exception) -> Result<bool, AllocError> {
+        if self.get(item.day).is_some() {
+            return Ok(false);
+        }
+        self.write(item.day, item.added)?;
+        Ok(true)
+    }
+}
+
+/// The frequencies of a trip in the order of the file. Contracts see them as a list.
+#[derive(Drop)]
+pub(crate) struct Frequencies {
+    items: Vec<Frequency>,
+}
+
+impl Model for Frequencies {
+    ghost use Rattle.std.specs.Prelude.{List};
+    ghost use Rattle.timetable.specs.declared.items.Frequency.{Frequency};
+
+    ghost Value = { List Frequency };
+
+    ghost view = { λ frequencies. frequencies.items.items };
+}
+
+impl Frequencies {
+    pub fn as_slice(&self) -> &[Frequency]
+        ensures { result.now ≡ self.now }
+    {
+        self.items.as_slice()
+    }
+}
+
+impl Group for Frequencies {
+    ghost use Rattle.std.specs.Prelude.{[], ◌∷◌, ◌++◌, Some};
+
+    type Item = Frequency;
+
+    ghost grouping = { record { first = λ item. item ∷ []; more = λ items item. Some (items ++ item ∷ []) } };
+
+    fn first(alloc: Global, item: Frequency) -> Result<Frequencies, AllocError> {
+        let mut items = Vec::new(alloc);
+        items.push(item)?;
+        Ok(Frequencies { items })
+    }
+
+    fn put(&mut self, item: Frequency) -> Result<bool, AllocError> {
+        self.items.push(item)?;
+        Ok(true)
+    }
+}

@@ -1,0 +1,315 @@
+//! A timetable in memory.
+
+ghost use Rattle.std.specs.Prelude.{◌≡◌, ◌≢◌, ◌≤◌, Ok, Err, IfOk, IfErr, IfSome, IfNone, None, Some, true, false, All, is_some, length, option_copied, option_map, option_and_then, slice_get, unwrap_or, []};
+ghost use Rattle.std.specs.FinMap as map;
+ghost use Rattle.rt_outside.specs.Causes.{Rose};
+ghost use Rattle.rt_outside.specs.Store.{contents_told};
+ghost use Rattle.timetable.specs.Folders.{path};
+ghost use Rattle.timetable.specs.Maps.{Text};
+ghost use Rattle.timetable.specs.Stops.{HaveStops, stop_time_at};
+ghost use Rattle.timetable.specs.Times.{keyed};
+ghost use Rattle.timetable.specs.Timetables.{KnowsTwice};
+ghost use Rattle.timetable.specs.declared.fault.LoadFault.TheVariants as fault;
+ghost use Rattle.timetable.specs.declared.file.File.{File};
+
+use crate::fault::LoadFault;
+use crate::folder::Source;
+use crate::grouped::{Grouped, Only};
+use crate::groups::{Exceptions, Frequencies};
+use crate::items::{Agency, Frequency, Route, ServiceRow, Stop, Trip};
+use crate::numbered::Numbered;
+use crate::stop_time::StopTime;
+use crate::stop_times::StopTimes;
+use crate::table::Table;
+use crate::twice::trips_that_return;
+use rt_day::Day;
+use rt_outside::Files;
+use std::alloc::{AllocError, Global};
+
+/// The greatest size of a file, in bytes.
+const LIMIT: usize = 536_870_912;
+
+/// The number of a trip of one timetable.
+#[derive(Clone, Copy, Debug, PartialEq, Eq)]
+pub struct TripNo {
+    number: usize,
+}
+
+/// The number of a service of one timetable.
+///
+/// It stands for the service id of some trip, so two numbers may stand for one id.
+#[derive(Clone, Copy, Debug)]
+pub struct ServiceNo {
+    trip: usize,
+}
+
+/// A timetable: the tables of its eight files, or none.
+///
+/// Look-ups take no memory. Ids are compared byte by byte.
+#[derive(Drop)]
+pub struct Timetable {
+    present: bool,
+    agencies: Grouped<Only<Agency>>,
+    stops: Grouped<Only<Stop>>,
+    routes: Grouped<Only<Route>>,
+    trips: Numbered<Only<Trip>>,
+    stop_times: StopTimes,
+    services: Grouped<Only<ServiceRow>>,
+    exceptions: Grouped<Exceptions>,
+    frequencies: Grouped<Frequencies>,
+    twice: Vec<bool>,
+    ghost have_stops: { HaveStops stop_times },
+    ghost knows_twice: { KnowsTwice trips stop_times twice.items },
+}
+
+/// The tables of the files in the order in which they are read.
+type Loaded = (
+    Grouped<Only<Agency>>,
+    (
+        Grouped<Only<Stop>>,
+        (
+            Grouped<Only<Route>>,
+            (
+                Grouped<Only<Trip>>,
+                (
+                    StopTimes,
+                    (
+                        Grouped<Only<ServiceRow>>,
+                        (Grouped<Exceptions>, Grouped<Frequencies>),
+                    ),
+                ),
+            ),
+        ),
+    ),
+);
+
+impl Timetable {
+    ghost use Rattle.timetable.specs.Lookups.{IsService, IsServiceOf, IsStop, IsTrip, IsTripOf, is_present, tables_in, trip_row};
+    ghost use Rattle.timetable.specs.Timetables.{tables_from, tables_of, trip_times, visits_twice};
+
+    /// The timetable that was not given: every table is empty.
+    pub fn absent(alloc: Global) -> Timetable
+        ensures { is_present result ≡ false }
+    {
+        let trips = Numbered::empty(alloc);
+        let stop_times = StopTimes::empty(alloc);
+        let twice = Vec::new(alloc);
+        Timetable {
+            present: false,
+            agencies: Grouped::new(alloc),
+            stops: Grouped::new(alloc),
+            routes: Grouped::new(alloc),
+            trips,
+            stop_times,
+            services: Grouped::new(alloc),
+            exceptions: Grouped::new(alloc),
+            frequencies: Grouped::new(alloc),
+            twice,
+        }
+    }
+
+    /// Reads the eight files of a folder, or answers their first fault.
+    ///
+    /// A file's name is the folder, a slash and the file's own name. A file of more than 536,870,912
+    /// bytes is too large. calendar.txt, calendar_dates.txt and frequencies.txt may be absent.
+    pub fn load<F: Files>(
+        alloc: Global,
+        files: &mut F,
+        folder: &str,
+    ) -> Result<Timetable, LoadFault>
+        ensures present { IfOk result (λ timetable. is_present timetable ≡ true) }
+        ensures ok { IfOk result (λ timetable. IfSome (contents_told (F.told files.old))
+            (λ contents. tables_of folder.now contents ≡ Ok (tables_in timetable))) }
+        ensures err { IfErr result (λ e. e ≢ fault.Memory → ((file : File) → e ≢ fault.ReadFault file)
+            → IfSome (contents_told (F.told files.old)) (λ contents. tables_of folder.now contents ≡ Err e)) }
+        ensures contents { contents_told (F.told files.new) ≡ contents_told (F.told files.old) }
+        ensures later { F.faults files.old ≤ F.faults files.new }
+        ensures cause { (file : File) → result ≡ Err (fault.ReadFault file)
+            → Rose (F.faults files.old) (F.faults files.new) }
+        ensures asked { (file : File) → result ≡ Err (fault.ReadFault file)
+            → IfSome (F.asked files.new) (λ last. last ≡ path folder.now file) }
+    {
+        let loaded = Loaded::load(alloc, files, folder, LIMIT)?;
+        Ok(Timetable::with_tables(alloc, loaded)?)
+    }
+
+    fn with_tables(alloc: Global, loaded: Loaded) -> Result<Timetable, AllocError>
+        requires { HaveStops loaded.1.1.1.1.0 }
+        ensures present { IfOk result (λ timetable. is_present timetable ≡ true) }
+        ensures tables { IfOk result (λ timetable. tables_from loaded ≡ tables_in timetable) }
+    {
+        let (agencies, (stops, (routes, (trips, (stop_times, rest))))) = loaded;
+        let (services, (exceptions, frequencies)) = rest;
+        let trips = trips.into_numbered();
+        let twice = trips_that_return(alloc, &trips, &stop_times)?;
+        Ok(Timetable {
+            present: true,
+            agencies,
+            stops,
+            routes,
+            trips,
+            stop_times,
+            services,
+            exceptions,
+            frequencies,
+            twice,
+        })
+    }
+
+    /// Whether the timetable was loaded.
+    pub fn is_present(&self) -> bool
+        ensures { result ≡ is_present self.now }
+    {
+        self.present
+    }
+
+    /// The number of a trip of trips.txt.
+    pub fn trip(&self, id: &str) -> Option<TripNo>
+        ensures found { IfSome result (λ trip. IsTripOf self.now trip id.now) }
+        ensures within { IfSome result (IsTrip self.now) }
+        ensures none { IfNone result (map.get (tables_in self.now).trips id.now ≡ None) }
+    {
+        match self.trips.number(id) {
+            Some(number) => Some(TripNo { number }),
+            None => None,
+        }
+    }
+
+    /// Whether routes.txt has the id.
+    pub fn has_route(&self, id: &str) -> bool
+        ensures { result ≡ is_some (map.get (tables_in self.now).routes id.now) }
+    {
+        self.routes.get(id).is_some()
+    }
+
+    /// Whether agency.txt has the id.
+    pub fn has_agency(&self, id: &str) -> bool
+        ensures { result ≡ is_some (map.get (tables_in self.now).agencies id.now) }
+    {
+        self.agencies.get(id).is_some()
+    }
+
+    /// The location type of a stop of stops.txt, 0 where it is left blank.
+    pub fn stop_kind(&self, id: &str) -> Option<u32>
+        ensures { result ≡ option_map (λ only. only.item.kind) (map.get (tables_in self.now).stops id.now) }
+    {
+        match self.stops.get(id) {
+            Some(only) => Some(only.item.kind),
+            None => None,
+        }
+    }
+
+    /// The route id of a trip.
+    pub fn route_of(&self, trip: TripNo) -> &str
+        requires { IsTrip self.now trip }
+        ensures { (id : Text) → IsTripOf self.now trip id
+            → option_map (λ row. row.route) (trip_row self.now id) ≡ Some result.now }
+    {
+        self.trips.get(trip.number).item.route.as_str()
+    }
+
+    /// The direction of a trip, None where it is left blank.
+    pub fn direction_of(&self, trip: TripNo) -> Option<u32>
+        requires { IsTrip self.now trip }
+        ensures { (id : Text) → IsTripOf self.now trip id
+            → option_map (λ row. row.direction) (trip_row self.now id) ≡ Some result }
+    {
+        self.trips.get(trip.number).item.direction
+    }
+
+    /// The service of a trip.
+    pub fn service_of(&self, trip: TripNo) -> ServiceNo
+        requires { IsTrip self.now trip }
+        ensures within { IsService self.now result }
+        ensures service { (id : Text) → IsTripOf self.now trip id
+            → IfSome (trip_row self.now id) (λ row. IsServiceOf self.now result row.service) }
+    {
+        ServiceNo { trip: trip.number }
+    }
+
+    /// The stop times of a trip, by rising sequence.
+    pub fn stop_times(&self, trip: TripNo) -> &[StopTime]
+        requires { IsTrip self.now trip }
+        ensures times { (id : Text) → IsTripOf self.now trip id
+            → keyed result.now ≡ map.entries (trip_times (tables_in self.now).stop_times id) }
+        ensures stops { All (λ time. IsStop self.now time.stop) result.now }
+    {
+        match self.stop_times.get(self.trips.id(trip.number)) {
+            Some(times) => times.as_slice(),
+            None => &[],
+        }
+    }
+
+    /// The stop time of a trip at a sequence.
+    pub fn stop_time(&self, trip: TripNo, sequence: u32) -> Option<&StopTime>
+        requires { IsTrip self.now trip }
+        ensures time { (id : Text) → IsTripOf self.now trip id
+            → option_copied result ≡ stop_time_at (tables_in self.now).stop_times.times id sequence }
+        ensures stop { IfSome result (λ time. IsStop self.now time.now.stop) }
+    {
+        match self.stop_times.get(self.trips.id(trip.number)) {
+            Some(times) => times.get(sequence),
+            None => None,
+        }
+    }
+
+    /// The stop id of a stop time's number.
+    pub fn stop_text(&self, stop: u32) -> &str
+        requires { IsStop self.now stop }
+        ensures { slice_get (tables_in self.now).stop_times.stops stop ≡ Some result.now }
+    {
+        self.stop_times.stop_text(stop)
+    }
+
+    /// Whether two stop times of a trip have one stop.
+    pub fn visits_twice(&self, trip: TripNo) -> bool
+        requires { IsTrip self.now trip }
+        ensures { (id : Text) → IsTripOf self.now trip id
+            → result ≡ visits_twice (trip_times (tables_in self.now).stop_times id) }
+    {
+        self.twice[trip.number]
+    }
+
+    /// The frequencies of a trip, in the order of the file.
+    pub fn frequencies(&self, trip: TripNo) -> &[Frequency]
+        requires { IsTrip self.now trip }
+        ensures { (id : Text) → IsTripOf self.now trip id
+            → result.now ≡ unwrap_or (map.get (tables_in self.now).frequencies id) [] }
+    {
+        match self.frequencies.get(self.trips.id(trip.number)) {
+            Some(frequencies) => frequencies.as_slice(),
+            None => &[],
+        }
+    }
+
+    /// The row of a service in calendar.txt.
+    pub fn calendar(&self, service: ServiceNo) -> Option<&ServiceRow>
+        requires { IsService self.now service }
+        ensures { (id : Text) → IsServiceOf self.now service id
+            → option_copied result ≡ option_map (λ only. only.item) (map.get (tables_in self.now).services id) }
+    {
+        match self.services.get(self.service_id(service)) {
+            Some(only) => Some(&only.item),
+            None => None,
+        }
+    }
+
+    /// Whether calendar_dates.txt adds a day to a service or removes it, None where it does neither.
+    pub fn exception(&self, service: ServiceNo, day: Day) -> Option<bool>
+        requires { IsService self.now service }
+        ensures { (id : Text) → IsServiceOf self.now service id
+            → result ≡ option_and_then (λ days. map.get days day.number) (map.get (tables_in self.now).exceptions id) }
+    {
+        match self.exceptions.get(self.service_id(service)) {
+            Some(exceptions) => exceptions.get(day),
+            None => None,
+        }
+    }
+
+    fn service_id(&self, service: ServiceNo) -> &str
+        requires { IsService self.now service }
+        ensures { (id : Text) → IsServiceOf self.now service id → result.now ≡ id }
+    {
+        self.trips.get(service.trip).item.service.as_str()
+    }
+}

@@ -1,0 +1,92 @@
+//! The stop times of one trip.
+
+ghost use Rattle.std.specs.Prelude.{◌≡◌, IfOk, IfErr, Some, None, All, if◌then◌else◌, option_copied};
+ghost use Rattle.std.specs.FinMap as map;
+ghost use Rattle.timetable.specs.Times.{AreRising, IsGapFor, StandsAt, keyed};
+
+use crate::grouped::Group;
+use crate::stop_time::StopTime;
+use std::alloc::{AllocError, Global};
+use std::marker::Model;
+
+/// The stop times of a trip, by rising sequence and found by binary search. Contracts see a finite map
+/// from their sequences.
+#[derive(Drop)]
+pub(crate) struct TripTimes {
+    times: Vec<StopTime>,
+}
+
+impl Model for TripTimes {
+    ghost use Rattle.std.specs.Coded.{coded_ℕ};
+    ghost use Rattle.std.specs.FinMap.{code, from_sorted};
+    ghost use Rattle.timetable.specs.Times.{AreRising, BySequence, keyed, stop_time_code};
+
+    ghost Value = { BySequence };
+
+    ghost coded = { code coded_ℕ stop_time_code };
+
+    ghost view = { λ trip. from_sorted (keyed trip.times.items) };
+
+    ghost invariant = { λ trip. AreRising trip.times.items };
+}
+
+impl TripTimes {
+    fn empty(alloc: Global) -> TripTimes
+        ensures { result ≡ map.empty }
+    {
+        TripTimes {
+            times: Vec::new(alloc),
+        }
+    }
+
+    /// All stop times, by rising sequence.
+    pub fn as_slice(&self) -> &[StopTime]
+        ensures entries { keyed result.now ≡ map.entries self.now }
+        ensures held { All (λ time. map.get self.now time.sequence ≡ Some time) result.now }
+    {
+        self.times.as_slice()
+    }
+
+    /// The stop time of a sequence.
+    pub fn get(&self, sequence: u32) -> Option<&StopTime>
+        ensures { option_copied result ≡ map.get self.now sequence }
+    {
+        match search(self.times.as_slice(), sequence) {
+            Ok(at) => Some(&self.times[at]),
+            Err(_) => None,
+        }
+    }
+}
+
+impl Group for TripTimes {
+    ghost use Rattle.timetable.specs.Times.{sequences};
+
+    type Item = StopTime;
+
+    ghost grouping = { sequences };
+
+    fn first(alloc: Global, item: StopTime) -> Result<TripTimes, AllocError> {
+        let mut trip = TripTimes::empty(alloc);
+        trip.put(item)?;
+        Ok(trip)
+    }
+
+    fn put(&mut self, item: StopTime) -> Result<bool, AllocError> {
+        match search(self.times.as_slice(), item.sequence) {
+            Ok(_) => Ok(false),
+            Err(at) => {
+                self.times.insert(at, item)?;
+                Ok(true)
+            }
+        }
+    }
+}
+
+/// Where a sequence stands, or where it would go.
+fn search(times: &[StopTime], sequence: u32) -> Result<usize, usize>
+    requires { AreRising times.now }
+    ensures found { IfOk result (StandsAt times.now sequence) }
+    ensures absent { IfErr result (IsGapFor times.now sequence) }
+{
+    times.binary_search_by_key(&sequence, |time| time.sequence)
+}
