@@ -1,0 +1,82 @@
+-- What is written to the error stream where a run isn't carried out. (This profile.)
+use Rattle.std.specs.Prelude.{◌≡◌, ℕ, List, ◌++◌, ◌⊎◌, codes, Option, Some, None, IfSome, Contains, ⊤}
+use Rattle.std.specs.Io.KnownBytes.{append_known}
+use Rattle.rt_outside.specs.Sink.{AppendsPrefix}
+use Rattle.rt_command.specs.declared.fault.Fault.{Fault}
+use Rattle.rt_command.specs.declared.fault.Fault.TheVariants as fault
+use Rattle.rt_command.specs.declared.request.Request.{Request}
+use Rattle.rt_command.specs.declared.status.Status.{Status}
+use Rattle.rt_command.specs.declared.status.Status.TheVariants as answer
+use Rattle.rt_command.specs.Words.{files_of}
+use Rattle.rt_command.specs.Report.{usage_text}
+
+abbrev pub memory_text : List ℕ
+memory_text = codes "out of memory\n"
+
+abbrev pub write_fault_text : List ℕ
+write_fault_text = codes "write fault\n"
+
+abbrev pub read_fault_text : List ℕ → List ℕ
+read_fault_text name = codes "read fault: " ++ name ++ codes "\n"
+
+-- the file of this name is one that the request reads
+abbrev pub Reads : Option Request → List ℕ → Type 0
+Reads None name = ⊥
+Reads (Some asked) name = Contains (files_of asked) name
+
+-- the texts that may stand on the error stream, where these files are read
+pub data IsErrorText (reads : List ℕ → Type 0) : List ℕ → Type 0 where
+  says_usage : IsErrorText reads usage_text
+  says_memory : IsErrorText reads memory_text
+  says_write_fault : IsErrorText reads write_fault_text
+  says_read_fault : (name : List ℕ) → reads name → IsErrorText reads (read_fault_text name)
+
+-- What was appended to the error stream with an answer that tells a fault. A read fault names a file that is read,
+-- and the one last asked for, where that is told. Where the error stream failed too, a prefix of one text stands there.
+abbrev pub TellsFault : (List ℕ → Type 0) → Option (List ℕ) → Type 0 → Option (List ℕ) → Option (List ℕ) → Status → Type 0
+TellsFault reads last rose before after answer.ReadFault =
+    (name : List ℕ) × reads name × IfSome last (λ asked. asked ≡ name) × (after ≡ append_known before (read_fault_text name))
+TellsFault reads last rose before after answer.Memory = after ≡ append_known before memory_text
+TellsFault reads last rose before after answer.WriteFault =
+    (after ≡ append_known before write_fault_text) ⊎ (rose × ((text : List ℕ) × IsErrorText reads text × AppendsPrefix before after text))
+TellsFault reads last rose before after answer.Clean = ⊤
+TellsFault reads last rose before after answer.Found = ⊤
+TellsFault reads last rose before after answer.Usage = ⊤
+
+-- the answers of a request that was carried out
+abbrev pub IsCarriedOut : Status → Type 0
+IsCarriedOut answer.Clean = ⊤
+IsCarriedOut answer.Found = ⊤
+IsCarriedOut answer.Usage = ⊥
+IsCarriedOut answer.ReadFault = ⊥
+IsCarriedOut answer.WriteFault = ⊥
+IsCarriedOut answer.Memory = ⊥
+
+-- the answers that a report may have
+abbrev pub IsReported : Status → Type 0
+IsReported answer.Clean = ⊤
+IsReported answer.Found = ⊤
+IsReported answer.Usage = ⊤
+IsReported answer.ReadFault = ⊥
+IsReported answer.WriteFault = ⊥
+IsReported answer.Memory = ⊥
+
+-- the answers where the words give no request
+abbrev pub IsWithoutRequest : Status → Type 0
+IsWithoutRequest answer.Clean = ⊥
+IsWithoutRequest answer.Found = ⊥
+IsWithoutRequest answer.Usage = ⊤
+IsWithoutRequest answer.ReadFault = ⊥
+IsWithoutRequest answer.WriteFault = ⊤
+IsWithoutRequest answer.Memory = ⊤
+
+-- a text was written whole and the answer is the one meant; or a put failed, and a prefix of it was written
+abbrev pub Says : List ℕ → Status → Type 0 → Option (List ℕ) → Option (List ℕ) → Status → Type 0
+Says text meant rose before after result =
+    ((result ≡ meant) × (after ≡ append_known before text)) ⊎ ((result ≡ answer.WriteFault) × rose × AppendsPrefix before after text)
+
+-- a fault was told by its own text, and its own answer is meant
+abbrev pub SaysFault : Fault → List ℕ → Type 0 → Option (List ℕ) → Option (List ℕ) → Status → Type 0
+SaysFault fault.Read file rose before after result = Says (read_fault_text file) answer.ReadFault rose before after result
+SaysFault fault.Write file rose before after result = Says write_fault_text answer.WriteFault rose before after result
+SaysFault fault.Memory file rose before after result = Says memory_text answer.Memory rose before after result

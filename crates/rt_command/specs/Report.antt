@@ -1,0 +1,86 @@
+-- What a run is to write and to answer: a function of the words, the moment and what the files hold.
+-- It doesn't see how the bytes arrive. (This profile.)
+use Rattle.std.specs.Prelude.{ℕ, List, [], ◌∷◌, ◌++◌, length, codes, Option, Some, None}
+use Rattle.std.specs.List.{flat_map}
+use Rattle.std.specs.FinMap.{get}
+use Rattle.rt_outside.specs.Store.{Contents}
+use Rattle.feed_values.specs.Schema.{Value}
+use Rattle.feed_values.specs.Messages.{feed_header}
+use Rattle.feed_values.specs.Snapshot.{header_of, entities_of}
+use Rattle.feed_codec.specs.declared.refusal.Reason.TheVariants.{NoFile}
+use Rattle.feed_codec.specs.declared.refusal.Refusal.{Refusal}
+use Rattle.feed_codec.specs.Refusal.{refusal, refused}
+use Rattle.rt_command.specs.declared.finding.Finding.{Finding}
+use Rattle.rt_command.specs.declared.lines.Accepted.{Accepted}
+use Rattle.rt_command.specs.declared.request.Request.{Request}
+use Rattle.rt_command.specs.declared.status.Status.{Status}
+use Rattle.rt_command.specs.declared.status.Status.TheVariants as answer
+use Rattle.rt_command.specs.HeaderRules.{findings}
+use Rattle.rt_command.specs.Lines.{accepted_line, refused_line, finding_line}
+use Rattle.rt_command.specs.Words.{request, files_of, moment_of}
+
+-- the text for the output, the text for the errors, and the answer
+pub record Report : Type 0 where
+  pub text : List ℕ
+  pub errors : List ℕ
+  pub status : Status
+
+-- a refused snapshot is a line, and something found
+abbrev pub refused_report : Refusal → Report
+refused_report refusal = record { text = refused_line 0 refusal; errors = []; status = answer.Found }
+
+-- the numbers of the first snapshot of a run, whose entities are all new
+abbrev pub first_snapshot : ℕ → ℕ → Accepted
+first_snapshot moment entities = record {
+  feed = 0;
+  row = 0;
+  snapshot = 0;
+  moment = moment;
+  entities = entities;
+  tested = entities;
+  paired = entities;
+  bounded = entities;
+}
+
+-- each rule on headers is an error, so any finding counts
+abbrev pub found : List Finding → Status
+found [] = answer.Clean
+found (finding ∷ more) = answer.Found
+
+-- an accepted snapshot is a line, and then its findings
+abbrev pub accepted_report : ℕ → Value feed_header → ℕ → Report
+accepted_report moment header entities = record {
+  text = accepted_line (first_snapshot moment entities) ++ flat_map finding_line (findings header);
+  errors = [];
+  status = found (findings header);
+}
+
+-- the report on a snapshot of these bytes, whose first fault is given, if it has one
+abbrev pub judged_report : ℕ → List ℕ → Option Refusal → Report
+judged_report moment bytes (Some refusal) = refused_report refusal
+judged_report moment bytes None = accepted_report moment (header_of bytes) (length (entities_of bytes))
+
+-- the report on a snapshot, whose file holds these bytes or isn't held
+abbrev pub snapshot_report : ℕ → Option (List ℕ) → Report
+snapshot_report moment None = refused_report (refused 0 NoFile)
+snapshot_report moment (Some bytes) = judged_report moment bytes (refusal bytes)
+
+-- the report on the file of `check`; a request of it names one, so the other cases are of no account
+abbrev pub check_report : ℕ → List (List ℕ) → Contents → Report
+check_report moment [] contents = record { text = []; errors = []; status = answer.Clean }
+check_report moment (file ∷ files) contents = snapshot_report moment (get contents file)
+
+-- the report on a request, of which there is `check` alone
+abbrev pub asked_report : Request → ℕ → Contents → Report
+asked_report asked now contents = check_report (moment_of asked now) (files_of asked) contents
+
+abbrev pub usage_text : List ℕ
+usage_text = codes "usage: rt_command check [--timetable DIR] [--now N] FILE...\n       rt_command follow [--timetable DIR] --list FILE\n       rt_command predict --timetable DIR (--zone-rule TEXT | --zone-file FILE) [--now N] FILE\n       rt_command show FILE\n       rt_command encode FILE\n       rt_command trial N\n"
+
+abbrev pub report_of : Option Request → ℕ → Contents → Report
+report_of None now contents = record { text = []; errors = usage_text; status = answer.Usage }
+report_of (Some asked) now contents = asked_report asked now contents
+
+-- the report of these words at this moment over these files
+abbrev pub report : List (List ℕ) → ℕ → Contents → Report
+report words now contents = report_of (request words) now contents

@@ -1,0 +1,82 @@
+//! The command `check`.
+ghost use Rattle.std.specs.Prelude.{◌≡◌, ◌∷◌, [], IfSome, IfOk, IsErrOf, Contains, length};
+ghost use Rattle.std.specs.FinMap.{get};
+ghost use Rattle.std.specs.Io.KnownBytes.{append_known};
+ghost use Rattle.rt_outside.specs.Causes.{Rose};
+ghost use Rattle.rt_outside.specs.Sink.{AppendsPrefix};
+ghost use Rattle.rt_outside.specs.Store.{contents_told};
+ghost use Rattle.rt_command.specs.Report.{snapshot_report, check_report};
+ghost use Rattle.rt_command.specs.Carried.{CarriesOut};
+ghost use Rattle.rt_command.specs.Faults.{IsCarriedOut};
+
+use crate::fault::Fault;
+use crate::judge::judge_file;
+use crate::say::say_fault;
+use crate::status::Status;
+use feed_values::{Items, Text};
+use rt_outside::{Files, Sink, put_all};
+use std::alloc::Global;
+
+/// Carries out `check` on the one file that `names` has, at this moment, as POSIX time in seconds.
+pub fn check<F: Files, S: Sink, E: Sink>(
+    alloc: Global,
+    moment: u64,
+    names: &Items<Text>,
+    files: &mut F,
+    out: &mut S,
+    err: &mut E,
+) -> Status
+    requires { length names.now ≡ 1 }
+    ensures { CarriesOut (check_report moment names.now) (Contains names.now)
+        (contents_told (F.told files.old)) (F.asked files.new)
+        (Rose (F.faults files.old) (F.faults files.new))
+        (Rose (S.faults out.old) (S.faults out.new)) (Rose (E.faults err.old) (E.faults err.new))
+        (S.written out.old) (S.written out.new) (E.written err.old) (E.written err.new) result }
+{
+    check_file(alloc, moment, names.as_slice()[0].as_str(), files, out, err)
+}
+
+// Carries out `check` on this file.
+fn check_file<F: Files, S: Sink, E: Sink>(
+    alloc: Global,
+    moment: u64,
+    file: &str,
+    files: &mut F,
+    out: &mut S,
+    err: &mut E,
+) -> Status
+    ensures { CarriesOut (check_report moment (file.now ∷ [])) (Contains (file.now ∷ []))
+        (contents_told (F.told files.old)) (F.asked files.new)
+        (Rose (F.faults files.old) (F.faults files.new))
+        (Rose (S.faults out.old) (S.faults out.new)) (Rose (E.faults err.old) (E.faults err.new))
+        (S.written out.old) (S.written out.new) (E.written err.old) (E.written err.new) result }
+{
+    match write_report(alloc, moment, file, files, out) {
+        Ok(status) => status,
+        Err(fault) => say_fault(err, fault, file),
+    }
+}
+
+// Writes the report on one file.
+fn write_report<F: Files, S: Sink>(
+    alloc: Global,
+    moment: u64,
+    file: &str,
+    files: &mut F,
+    out: &mut S,
+) -> Result<Status, Fault>
+    ensures text { IfSome (contents_told (F.told files.old)) (λ held.
+        AppendsPrefix (S.written out.old) (S.written out.new)
+        (snapshot_report moment (get held file.now)).text) }
+    ensures whole { IfSome (contents_told (F.told files.old)) (λ held. IfOk result (λ status.
+        let report = snapshot_report moment (get held file.now) in (status ≡ report.status)
+        × (S.written out.new ≡ append_known (S.written out.old) report.text))) }
+    ensures carried_out { IfOk result IsCarriedOut }
+    ensures asked { IfSome (F.asked files.new) (λ last. last ≡ file.now) }
+    ensures read { IsErrOf result Fault.Read → Rose (F.faults files.old) (F.faults files.new) }
+    ensures write { IsErrOf result Fault.Write → Rose (S.faults out.old) (S.faults out.new) }
+{
+    let judged = judge_file(alloc, moment, files, file)?;
+    put_all(out, judged.text.as_bytes())?;
+    Ok(judged.status)
+}

@@ -1,0 +1,97 @@
+//! The whole of what the program does.
+ghost use Rattle.std.specs.Prelude.{◌≡◌, ◌⊎◌, IfSome, None, map, string_bytes, length};
+ghost use Rattle.std.specs.Io.KnownBytes.{append_known};
+ghost use Rattle.rt_outside.specs.Causes.{Rose};
+ghost use Rattle.rt_outside.specs.Sink.{AppendsPrefix};
+ghost use Rattle.rt_outside.specs.Store.{contents_told};
+ghost use Rattle.rt_command.specs.Words.{request, files_of};
+ghost use Rattle.rt_command.specs.Report.{report, asked_report};
+ghost use Rattle.rt_command.specs.Carried.{CarriesOut};
+ghost use Rattle.rt_command.specs.Faults.{Reads, IsReported, IsWithoutRequest, TellsFault};
+
+use crate::check::check;
+use crate::request::Request;
+use crate::say::say;
+use crate::status::Status;
+use crate::words::words_of;
+use rt_outside::{Files, Sink, Steps};
+use std::alloc::Global;
+use std::sync::ledger::Ledger;
+
+const USAGE: &[u8] = b"usage: rt_command check [--timetable DIR] [--now N] FILE...
+       rt_command follow [--timetable DIR] --list FILE
+       rt_command predict --timetable DIR (--zone-rule TEXT | --zone-file FILE) [--now N] FILE
+       rt_command show FILE
+       rt_command encode FILE
+       rt_command trial N
+";
+
+/// Carries out the request of the words after the program's name, at the moment `now`, as POSIX
+/// time in seconds.
+///
+/// Want of memory is the one answer that may come at any time. The two counters, of decodings and
+/// of rule tests, are for the engine that follows feeds; no command counts on them yet.
+pub fn run<F: Files, S: Sink, E: Sink, D: Ledger, T: Ledger>(
+    alloc: Global,
+    words: &[String],
+    now: u64,
+    files: &mut F,
+    out: &mut S,
+    err: &mut E,
+    decodes: &mut Steps<D>,
+    tests: &mut Steps<T>,
+) -> Status
+    // A prefix of the report's text was written to the output, and all of it where the answer is
+    // one that a report may have.
+    ensures text { IfSome (contents_told (F.told files.old)) (λ held.
+        AppendsPrefix (S.written out.old) (S.written out.new)
+        (report (map string_bytes words.now) now held).text) }
+    ensures whole { IsReported result → IfSome (contents_told (F.told files.old)) (λ held.
+        S.written out.new ≡ append_known (S.written out.old)
+        (report (map string_bytes words.now) now held).text) }
+
+    // That answer is then the report's, and so is what was written to the error stream. The words
+    // give no request exactly where the answer is Usage, but for want of memory and a failed write.
+    ensures status { IsReported result → IfSome (contents_told (F.told files.old)) (λ held.
+        result ≡ (report (map string_bytes words.now) now held).status) }
+    ensures errors { IsReported result → IfSome (contents_told (F.told files.old)) (λ held.
+        E.written err.new ≡ append_known (E.written err.old)
+        (report (map string_bytes words.now) now held).errors) }
+    ensures usage { result ≡ Status.Usage → request (map string_bytes words.now) ≡ None }
+    ensures no_request { request (map string_bytes words.now) ≡ None → IsWithoutRequest result }
+
+    // A fault comes only where a count of faults shows it.
+    ensures read_fault { result ≡ Status.ReadFault
+        → Rose (F.faults files.old) (F.faults files.new) }
+    ensures write_fault { result ≡ Status.WriteFault
+        → Rose (S.faults out.old) (S.faults out.new) ⊎ Rose (E.faults err.old) (E.faults err.new) }
+
+    // Each fault is told on the error stream.
+    ensures told { TellsFault (Reads (request (map string_bytes words.now))) (F.asked files.new)
+        (Rose (E.faults err.old) (E.faults err.new)) (E.written err.old) (E.written err.new) result }
+{
+    match words_of(alloc, words) {
+        Err(_) => say(err, b"out of memory\n", Status::Memory),
+        Ok(None) => say(err, USAGE, Status::Usage),
+        Ok(Some(request)) => carry_out(alloc, &request, now, files, out, err),
+    }
+}
+
+// Carries out a request.
+fn carry_out<F: Files, S: Sink, E: Sink>(
+    alloc: Global,
+    request: &Request,
+    now: u64,
+    files: &mut F,
+    out: &mut S,
+    err: &mut E,
+) -> Status
+    requires { length (files_of request.now) ≡ 1 }
+    ensures { CarriesOut (asked_report request.now now) (Reads (Some request.now))
+        (contents_told (F.told files.old)) (F.asked files.new)
+        (Rose (F.faults files.old) (F.faults files.new))
+        (Rose (S.faults out.old) (S.faults out.new)) (Rose (E.faults err.old) (E.faults err.new))
+        (S.written out.old) (S.written out.new) (E.written err.old) (E.written err.new) result }
+{
+    check(alloc, request.moment(now), request.files(), files, out, err)
+}

@@ -1,0 +1,68 @@
+//! Texts on the error stream.
+ghost use Rattle.std.specs.Prelude.{◌≡◌, ◌++◌, OnOk, OnErr};
+ghost use Rattle.std.specs.Io.KnownBytes.{append_known};
+ghost use Rattle.rt_outside.specs.Causes.{HasCause, Rose};
+ghost use Rattle.rt_outside.specs.Sink.{AppendsPrefix};
+ghost use Rattle.rt_command.specs.Faults.{Says, SaysFault, read_fault_text};
+
+use crate::fault::Fault;
+use crate::status::Status;
+use rt_outside::{Failed, Sink, put_all};
+
+/// Writes a text, and answers what it means, or `WriteFault` where a put fails.
+pub fn say<E: Sink>(err: &mut E, text: &[u8], meant: Status) -> Status
+    ensures { Says text.now meant (Rose (E.faults err.old) (E.faults err.new))
+        (E.written err.old) (E.written err.new) result }
+{
+    match put_all(err, text) {
+        Ok(()) => meant,
+        Err(Failed) => Status::WriteFault,
+    }
+}
+
+/// Tells a fault, and answers it. A read fault is that of `file`.
+pub fn say_fault<E: Sink>(err: &mut E, fault: Fault, file: &str) -> Status
+    ensures { SaysFault fault file.now (Rose (E.faults err.old) (E.faults err.new))
+        (E.written err.old) (E.written err.new) result }
+{
+    match fault {
+        Fault::Read => say_read_fault(err, file),
+        Fault::Write => say(err, b"write fault\n", Status::WriteFault),
+        Fault::Memory => say(err, b"out of memory\n", Status::Memory),
+    }
+}
+
+// Writes that the file of this name couldn't be read. It takes no memory for the text.
+fn say_read_fault<E: Sink>(err: &mut E, name: &str) -> Status
+    ensures { Says (read_fault_text name.now) Status.ReadFault
+        (Rose (E.faults err.old) (E.faults err.new)) (E.written err.old) (E.written err.new) result }
+{
+    match put_three(err, b"read fault: ", name.as_bytes(), b"\n") {
+        Ok(()) => Status::ReadFault,
+        Err(Failed) => Status::WriteFault,
+    }
+}
+
+// Writes two pieces.
+fn put_two<E: Sink>(err: &mut E, first: &[u8], second: &[u8]) -> Result<(), Failed>
+    ensures ok { OnOk result
+        (E.written err.new ≡ append_known (E.written err.old) (first.now ++ second.now)) }
+    ensures err { OnErr result
+        (AppendsPrefix (E.written err.old) (E.written err.new) (first.now ++ second.now)) }
+    ensures cause { HasCause (E.faults err.old) (E.faults err.new) result }
+{
+    put_all(err, first)?;
+    put_all(err, second)
+}
+
+// Writes three pieces.
+fn put_three<E: Sink>(err: &mut E, first: &[u8], second: &[u8], third: &[u8]) -> Result<(), Failed>
+    ensures ok { OnOk result (E.written err.new
+        ≡ append_known (E.written err.old) (first.now ++ second.now ++ third.now)) }
+    ensures err { OnErr result (AppendsPrefix (E.written err.old) (E.written err.new)
+        (first.now ++ second.now ++ third.now)) }
+    ensures cause { HasCause (E.faults err.old) (E.faults err.new) result }
+{
+    put_two(err, first, second)?;
+    put_all(err, third)
+}
