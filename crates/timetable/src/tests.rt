@@ -5,6 +5,7 @@ use crate::{Column, File, LoadFault, Timetable};
 use rt_day::Day;
 use rt_outside::MemoryFiles;
 use std::alloc::Global;
+use std::process::Abort;
 use std::test::Fail;
 
 /// A small town: each file's name and bytes.
@@ -45,37 +46,78 @@ fn town(alloc: Global) -> Result<MemoryFiles, Fail> {
     Ok(files)
 }
 
-#[test]
-fn a_town_answers_its_rows(rt: HostRuntime) -> Result<(), Fail> {
-    let alloc = rt.alloc();
-    let mut files = town(alloc)?;
-    let table = Timetable::load(alloc, &mut files, "town")?;
+fn expect_ids(rt: &impl Abort, table: &Timetable) {
     assert!(rt; table.is_present());
-    assert!(rt; table.has_agency("A1") && !table.has_agency(""));
-    assert!(rt; table.has_route("R2") && !table.has_route("R3"));
+    assert!(rt; table.has_agency("A1"));
+    assert!(rt; !table.has_agency(""));
+    assert!(rt; table.has_route("R2"));
+    assert!(rt; !table.has_route("R3"));
     assert_eq!(rt; table.stop_kind("P1"), Some(1));
     assert_eq!(rt; table.stop_kind("S1"), Some(0));
     assert_eq!(rt; table.stop_kind("X"), None);
     assert!(rt; table.trip("T3").is_none());
-    let trip = table.trip("T1").expect(&rt, "T1");
-    assert!(rt; table.route_of(trip) == "R1");
-    assert_eq!(rt; table.direction_of(trip), Some(0));
-    assert_eq!(rt; table.stop_times(trip).len(), 3);
-    assert!(rt; !table.visits_twice(trip));
-    let time = table.stop_time(trip, 2).expect(&rt, "sequence 2");
-    assert_eq!(rt; time.arrival, Some(29_400));
-    assert_eq!(rt; time.departure, Some(29_460));
-    assert!(rt; table.stop_text(time.stop) == "S2");
-    assert!(rt; table.stop_time(trip, 4).is_none());
-    let service = table.service_of(trip);
-    let days = table.calendar(service).expect(&rt, "WK");
-    assert_eq!(rt; days.weekdays, 31);
-    assert_eq!(rt; days.first.number, 19_662);
-    assert_eq!(rt; table.exception(service, Day { number: 19_675 }), None);
-    let often = table.trip("F1").expect(&rt, "F1");
-    assert_eq!(rt; table.frequencies(often).len(), 1);
-    assert_eq!(rt; table.direction_of(often), None);
-    assert!(rt; table.frequencies(trip).is_empty());
+}
+
+fn expect_trip(rt: &impl Abort, table: &Timetable) {
+    match table.trip("T1") {
+        Some(trip) => {
+            assert!(rt; table.route_of(trip) == "R1");
+            assert_eq!(rt; table.direction_of(trip), Some(0));
+            assert_eq!(rt; table.stop_times(trip).len(), 3);
+            assert!(rt; !table.visits_twice(trip));
+            assert!(rt; table.frequencies(trip).is_empty());
+        }
+        None => panic!(rt; "no trip T1"),
+    }
+}
+
+fn expect_stop_time(rt: &impl Abort, table: &Timetable) {
+    match table.trip("T1") {
+        Some(trip) => {
+            assert!(rt; table.stop_time(trip, 4).is_none());
+            match table.stop_time(trip, 2) {
+                Some(time) => {
+                    assert_eq!(rt; time.arrival, Some(29_400));
+                    assert_eq!(rt; time.departure, Some(29_460));
+                }
+                None => panic!(rt; "no sequence 2"),
+            }
+        }
+        None => panic!(rt; "no trip T1"),
+    }
+}
+
+fn expect_service(rt: &impl Abort, table: &Timetable) {
+    match table.trip("F1") {
+        Some(trip) => {
+            assert_eq!(rt; table.direction_of(trip), None);
+            assert_eq!(rt; table.frequencies(trip).len(), 1);
+            let service = table.service_of(trip);
+            assert_eq!(rt; table.exception(service, Day { number: 19_675 }), None);
+            match table.calendar(service) {
+                Some(days) => {
+                    assert_eq!(rt; days.weekdays, 31);
+                    assert_eq!(rt; days.first.number, 19_662);
+                }
+                None => panic!(rt; "no service WK"),
+            }
+        }
+        None => panic!(rt; "no trip F1"),
+    }
+}
+
+fn loaded_town(alloc: Global) -> Result<Timetable, Fail> {
+    let mut files = town(alloc)?;
+    Ok(Timetable::load(alloc, &mut files, "town")?)
+}
+
+#[test]
+fn a_town_answers_its_rows(rt: HostRuntime) -> Result<(), Fail> {
+    let table = loaded_town(rt.alloc())?;
+    expect_ids(&rt, &table);
+    expect_trip(&rt, &table);
+    expect_stop_time(&rt, &table);
+    expect_service(&rt, &table);
     Ok(())
 }
 
@@ -216,27 +258,44 @@ fn the_first_fault_is_named(rt: HostRuntime) -> Result<(), Fail> {
     Ok(())
 }
 
-#[test]
-fn files_may_be_absent_or_fail(rt: HostRuntime) -> Result<(), Fail> {
-    let alloc = rt.alloc();
-    assert!(rt; !Timetable::absent(alloc).is_present());
-    let mut none = MemoryFiles::new(alloc);
-    let nowhere = Timetable::load(alloc, &mut none, "no");
-    assert!(rt; matches!(nowhere, Err(LoadFault::MissingFile(File::Agency))));
+/// The answer of these files of a town.
+fn fault_with(alloc: Global, held: &[(&str, &[u8])]) -> Result<Option<LoadFault>, Fail> {
     let mut files = MemoryFiles::new(alloc);
-    for (name, bytes) in &TOWN[..5] {
+    for (name, bytes) in held {
         files.add(name, bytes)?;
     }
-    assert!(rt; Timetable::load(alloc, &mut files, "town").is_ok());
+    match Timetable::load(alloc, &mut files, "town") {
+        Ok(_) => Ok(None),
+        Err(fault) => Ok(Some(fault)),
+    }
+}
+
+#[test]
+fn files_may_be_absent(rt: HostRuntime) -> Result<(), Fail> {
+    let alloc = rt.alloc();
+    assert!(rt; !Timetable::absent(alloc).is_present());
+    let missing = Some(LoadFault::MissingFile(File::Agency));
+    assert_eq!(rt; fault_with(alloc, &[])?, missing);
+    assert_eq!(rt; fault_with(alloc, &TOWN[..5])?, None);
+    Ok(())
+}
+
+/// The answer of a town whose call of this number fails.
+fn fault_failing(alloc: Global, call: u64) -> Result<Option<LoadFault>, Fail> {
+    let mut files = town(alloc)?;
+    files.fail_at(call)?;
+    match Timetable::load(alloc, &mut files, "town") {
+        Ok(_) => Ok(None),
+        Err(fault) => Ok(Some(fault)),
+    }
+}
+
+#[test]
+fn a_failing_call_is_a_read_fault_of_its_file(rt: HostRuntime) -> Result<(), Fail> {
     // Each file takes an opening, a pull of its bytes and a pull at its end.
     for (call, file) in [(1, File::Agency), (2, File::Agency), (4, File::Stops)] {
-        let mut failing = town(alloc)?;
-        failing.fail_at(call)?;
-        let failed = Timetable::load(alloc, &mut failing, "town");
-        assert!(rt;
-            matches!(failed, Err(LoadFault::ReadFault(f)) if f == file),
-            "call {call}"
-        );
+        let want = Some(LoadFault::ReadFault(file));
+        assert_eq!(rt; fault_failing(rt.alloc(), call)?, want, "call {call}");
     }
     Ok(())
 }
