@@ -1,8 +1,10 @@
 pub mod Texts
 pub mod Floats
 pub mod Appended
+pub mod Named
 pub mod Reports
 pub mod Requests
+pub mod Refusals
 pub mod Told
 pub mod Carried
 pub mod Numbers

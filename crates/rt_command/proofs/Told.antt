@@ -3,14 +3,12 @@ use Rattle.std.proofs.Common.{◌≡◌, ℕ, List, inl, inr, sym, subst, Some, 
 use Rattle.std.specs.declared.option.Option.{Option}
 use Rattle.std.specs.Io.KnownBytes.{append_known}
 use Rattle.rt_outside.specs.Store.{Contents}
-use Rattle.rt_outside.specs.Sink.{AppendsPrefix}
-use Rattle.rt_command.specs.declared.fault.Fault.{Fault}
-use Rattle.rt_command.specs.declared.fault.Fault.TheVariants as fault
+use Rattle.timetable.specs.Folders.{path}
 use Rattle.rt_command.specs.declared.request.Request.{Request}
 use Rattle.rt_command.specs.declared.status.Status.{Status}
 use Rattle.rt_command.specs.declared.status.Status.TheVariants as answer
-use Rattle.rt_command.specs.Report.{report_of, asked_report, usage_text}
-use Rattle.rt_command.specs.Faults.{TellsFault, IsErrorText, says_memory, says_write_fault, says_read_fault, Says, SaysFault, IsReported, memory_text, write_fault_text, read_fault_text}
+use Rattle.rt_command.specs.Report.{Report, report_of, asked_report, usage_text}
+use Rattle.rt_command.specs.Faults.{TellsFault, IsErrorText, says_usage, says_memory, says_write_fault, says_read_fault, says_refused, Says, IsReported}
 
 -- a text that may stand there was said
 pub tells : (reads : List ℕ → Type 0) (last : Option (List ℕ)) (rose : Type 0) (before after : Option (List ℕ)) (text : List ℕ) (meant result : Status) →
@@ -26,19 +24,28 @@ usage_told None asked now rose before after result none said reported = tt
 usage_told (Some held) asked now rose before after result none (inl said) reported = subst (λ a. after ≡ append_known before (report_of a now held).errors) none said.1
 usage_told (Some held) asked now rose before after result none (inr said) reported = absurd (subst IsReported said.0 reported)
 
--- the report on what is asked for
-pub text_told : (told : Option Contents) (asked : Request) (request : Option Request) (now : ℕ) (before after : Option (List ℕ)) → Some asked ≡ request →
-    IfSome told (λ held. AppendsPrefix before after (asked_report asked now held).text) →
-    IfSome told (λ held. AppendsPrefix before after (report_of request now held).text)
-text_told told asked request now before after is h =
-    subst (λ r. IfSome told (λ held. AppendsPrefix before after (report_of r now held).text)) is h
+-- what holds of the report on what is asked for holds of the report on the words
+pub report_told : (P : Report → Type 0) (told : Option Contents) (asked : Request) (request : Option Request) (now : ℕ) → Some asked ≡ request →
+    IfSome told (λ held. P (asked_report asked now held)) → IfSome told (λ held. P (report_of request now held))
+report_told P told asked request now is = subst (λ r. IfSome told (λ held. P (report_of r now held))) is
 
--- a fault was said, which in a read fault is that of the file last asked for
-pub fault_told : (reads : List ℕ → Type 0) (last : Option (List ℕ)) (rose : Type 0) (before after : Option (List ℕ)) (why : Fault) (file : List ℕ) (result : Status) →
-    reads file → IfSome last (λ asked. asked ≡ file) → SaysFault why file rose before after result → TellsFault reads last rose before after result
-fault_told reads last rose before after fault.Read file result read named said =
-    tells reads last rose before after (read_fault_text file) answer.ReadFault result (says_read_fault file read) (λ whole. (file, read, named, whole)) said
-fault_told reads last rose before after fault.Write file result read named said =
-    tells reads last rose before after write_fault_text answer.WriteFault result says_write_fault (λ whole. inl whole) said
-fault_told reads last rose before after fault.Memory file result read named said =
-    tells reads last rose before after memory_text answer.Memory result says_memory (λ whole. whole) said
+-- where more files are read, a text that may stand there still may
+error_text_more : (reads more : List ℕ → Type 0) (text : List ℕ) → ((name : List ℕ) → reads name → more name) → IsErrorText reads text → IsErrorText more text
+error_text_more reads more text reading says_usage = says_usage
+error_text_more reads more text reading says_memory = says_memory
+error_text_more reads more text reading says_write_fault = says_write_fault
+error_text_more reads more text reading (says_read_fault name is) = says_read_fault name (reading name is)
+error_text_more reads more text reading (says_refused folder why is) = says_refused folder why (λ file. reading (path folder file) (is file))
+
+-- and what a fault tells still does
+pub tells_more : (reads more : List ℕ → Type 0) (last : Option (List ℕ)) (rose : Type 0) (before after : Option (List ℕ)) (result : Status) →
+    ((name : List ℕ) → reads name → more name) → TellsFault reads last rose before after result → TellsFault more last rose before after result
+tells_more reads more last rose before after answer.Clean reading told = tt
+tells_more reads more last rose before after answer.Found reading told = tt
+tells_more reads more last rose before after answer.Usage reading told = tt
+tells_more reads more last rose before after answer.ReadFault reading told = (told.0, reading told.0 told.1, told.2, told.3)
+tells_more reads more last rose before after answer.WriteFault reading (inl whole) = inl whole
+tells_more reads more last rose before after answer.WriteFault reading (inr part) =
+    inr (part.0, (part.1.0, error_text_more reads more part.1.0 reading part.1.1, part.1.2))
+tells_more reads more last rose before after answer.Memory reading told = told
+tells_more reads more last rose before after answer.Refused reading told = tt

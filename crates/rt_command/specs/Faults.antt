@@ -7,8 +7,13 @@ use Rattle.rt_command.specs.declared.fault.Fault.TheVariants as fault
 use Rattle.rt_command.specs.declared.request.Request.{Request}
 use Rattle.rt_command.specs.declared.status.Status.{Status}
 use Rattle.rt_command.specs.declared.status.Status.TheVariants as answer
-use Rattle.rt_command.specs.Words.{files_of}
+use Rattle.rt_command.specs.Inputs.{refusal_text}
+use Rattle.rt_command.specs.Words.{folder_of, files_of}
 use Rattle.rt_command.specs.Report.{usage_text}
+use Rattle.timetable.specs.Folders.{path}
+use Rattle.timetable.specs.declared.fault.LoadFault.{LoadFault}
+use Rattle.timetable.specs.declared.fault.LoadFault.TheVariants as load
+use Rattle.timetable.specs.declared.file.File.{File}
 
 abbrev pub memory_text : List ℕ
 memory_text = codes "out of memory\n"
@@ -19,10 +24,19 @@ write_fault_text = codes "write fault\n"
 abbrev pub read_fault_text : List ℕ → List ℕ
 read_fault_text name = codes "read fault: " ++ name ++ codes "\n"
 
+-- a file of this name stands in the folder of a timetable, where one is given
+abbrev pub IsTableFile : Option (List ℕ) → List ℕ → Type 0
+IsTableFile None name = ⊥
+IsTableFile (Some folder) name = (file : File) × (name ≡ path folder file)
+
+-- a file that `check` reads: one of those that are named, or one of the timetable's folder
+abbrev pub IsInput : Option (List ℕ) → List (List ℕ) → List ℕ → Type 0
+IsInput folder names name = Contains names name ⊎ IsTableFile folder name
+
 -- the file of this name is one that the request reads
 abbrev pub Reads : Option Request → List ℕ → Type 0
 Reads None name = ⊥
-Reads (Some asked) name = Contains (files_of asked) name
+Reads (Some asked) name = IsInput (folder_of asked) (files_of asked) name
 
 -- the texts that may stand on the error stream, where these files are read
 pub data IsErrorText (reads : List ℕ → Type 0) : List ℕ → Type 0 where
@@ -30,6 +44,7 @@ pub data IsErrorText (reads : List ℕ → Type 0) : List ℕ → Type 0 where
   says_memory : IsErrorText reads memory_text
   says_write_fault : IsErrorText reads write_fault_text
   says_read_fault : (name : List ℕ) → reads name → IsErrorText reads (read_fault_text name)
+  says_refused : (folder : List ℕ) (fault : LoadFault) → ((file : File) → reads (path folder file)) → IsErrorText reads (refusal_text folder fault)
 
 -- What was appended to the error stream with an answer that tells a fault. A read fault names a file that is read,
 -- and the one last asked for, where that is told. Where the error stream failed too, a prefix of one text stands there.
@@ -42,8 +57,9 @@ TellsFault reads last rose before after answer.WriteFault =
 TellsFault reads last rose before after answer.Clean = ⊤
 TellsFault reads last rose before after answer.Found = ⊤
 TellsFault reads last rose before after answer.Usage = ⊤
+TellsFault reads last rose before after answer.Refused = ⊤
 
--- the answers of a request that was carried out
+-- the answers of a request that was carried out to the end of its files
 abbrev pub IsCarriedOut : Status → Type 0
 IsCarriedOut answer.Clean = ⊤
 IsCarriedOut answer.Found = ⊤
@@ -51,6 +67,7 @@ IsCarriedOut answer.Usage = ⊥
 IsCarriedOut answer.ReadFault = ⊥
 IsCarriedOut answer.WriteFault = ⊥
 IsCarriedOut answer.Memory = ⊥
+IsCarriedOut answer.Refused = ⊥
 
 -- the answers that a report may have
 abbrev pub IsReported : Status → Type 0
@@ -60,6 +77,7 @@ IsReported answer.Usage = ⊤
 IsReported answer.ReadFault = ⊥
 IsReported answer.WriteFault = ⊥
 IsReported answer.Memory = ⊥
+IsReported answer.Refused = ⊤
 
 -- the answers where the words give no request
 abbrev pub IsWithoutRequest : Status → Type 0
@@ -69,6 +87,7 @@ IsWithoutRequest answer.Usage = ⊤
 IsWithoutRequest answer.ReadFault = ⊥
 IsWithoutRequest answer.WriteFault = ⊤
 IsWithoutRequest answer.Memory = ⊤
+IsWithoutRequest answer.Refused = ⊥
 
 -- a text was written whole and the answer is the one meant; or a put failed, and a prefix of it was written
 abbrev pub Says : List ℕ → Status → Type 0 → Option (List ℕ) → Option (List ℕ) → Status → Type 0
@@ -80,3 +99,11 @@ abbrev pub SaysFault : Fault → List ℕ → Type 0 → Option (List ℕ) → O
 SaysFault fault.Read file rose before after result = Says (read_fault_text file) answer.ReadFault rose before after result
 SaysFault fault.Write file rose before after result = Says write_fault_text answer.WriteFault rose before after result
 SaysFault fault.Memory file rose before after result = Says memory_text answer.Memory rose before after result
+
+-- a timetable's fault was told: a read fault by the name of its file, want of memory, or why it is refused, for which
+-- memory may be wanted
+abbrev pub SaysLoadFault : List ℕ → LoadFault → Type 0 → Option (List ℕ) → Option (List ℕ) → Status → Type 0
+SaysLoadFault folder (load.ReadFault file) rose before after result = Says (read_fault_text (path folder file)) answer.ReadFault rose before after result
+SaysLoadFault folder load.Memory rose before after result = Says memory_text answer.Memory rose before after result
+SaysLoadFault folder fault rose before after result =
+    Says (refusal_text folder fault) answer.Refused rose before after result ⊎ Says memory_text answer.Memory rose before after result

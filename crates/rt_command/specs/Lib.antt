@@ -1,5 +1,6 @@
 pub mod Report
 pub mod Words
+pub mod Inputs
 pub mod Lines
 pub mod LineValues
 pub mod HeaderRules

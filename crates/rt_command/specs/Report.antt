@@ -17,7 +17,8 @@ use Rattle.rt_command.specs.declared.status.Status.{Status}
 use Rattle.rt_command.specs.declared.status.Status.TheVariants as answer
 use Rattle.rt_command.specs.HeaderRules.{findings}
 use Rattle.rt_command.specs.Lines.{accepted_line, refused_line, finding_line}
-use Rattle.rt_command.specs.Words.{request, files_of, moment_of}
+use Rattle.rt_command.specs.Inputs.{timetable_refusal}
+use Rattle.rt_command.specs.Words.{request, folder_of, files_of, moment_of}
 
 -- the text for the output, the text for the errors, and the answer
 pub record Report : Type 0 where
@@ -66,13 +67,25 @@ snapshot_report moment None = refused_report (refused 0 NoFile)
 snapshot_report moment (Some bytes) = judged_report moment bytes (refusal bytes)
 
 -- the report on the file of `check`; a request of it names one, so the other cases are of no account
-abbrev pub check_report : ℕ → List (List ℕ) → Contents → Report
-check_report moment [] contents = record { text = []; errors = []; status = answer.Clean }
-check_report moment (file ∷ files) contents = snapshot_report moment (get contents file)
+abbrev pub files_report : ℕ → List (List ℕ) → Contents → Report
+files_report moment [] contents = record { text = []; errors = []; status = answer.Clean }
+files_report moment (file ∷ files) contents = snapshot_report moment (get contents file)
+
+-- an input that is refused ends the run with its text, before any snapshot is read
+abbrev pub refused_input : List ℕ → Report
+refused_input text = record { text = []; errors = text; status = answer.Refused }
+
+abbrev pub unless_refused : Option (List ℕ) → Report → Report
+unless_refused None report = report
+unless_refused (Some text) report = refused_input text
+
+-- the report of `check` on a timetable, where a folder is given; a timetable that is accepted changes nothing yet
+abbrev pub check_report : Option (List ℕ) → ℕ → List (List ℕ) → Contents → Report
+check_report folder moment files contents = unless_refused (timetable_refusal folder contents) (files_report moment files contents)
 
 -- the report on a request, of which there is `check` alone
 abbrev pub asked_report : Request → ℕ → Contents → Report
-asked_report asked now contents = check_report (moment_of asked now) (files_of asked) contents
+asked_report asked now contents = check_report (folder_of asked) (moment_of asked now) (files_of asked) contents
 
 abbrev pub usage_text : List ℕ
 usage_text = codes "usage: rt_command check [--timetable DIR] [--now N] FILE...\n       rt_command follow [--timetable DIR] --list FILE\n       rt_command predict --timetable DIR (--zone-rule TEXT | --zone-file FILE) [--now N] FILE\n       rt_command show FILE\n       rt_command encode FILE\n       rt_command trial N\n"

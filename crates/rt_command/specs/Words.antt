@@ -1,9 +1,10 @@
 -- What the words of a command line ask for. (This profile.)
-use Rattle.std.specs.Prelude.{ℕ, ◌^◌, List, [], ◌∷◌, length, Bool, false, not, ◌&&◌, ◌==◌, nat_lt, nat_le, if◌then◌else◌, codes, Option, Some, None, unwrap_or, is_none, option_and_then}
+use Rattle.std.specs.Prelude.{ℕ, ◌^◌, List, [], ◌∷◌, length, Bool, false, not, ◌&&◌, ◌==◌, nat_lt, nat_le, if◌then◌else◌, codes, Option, Some, None, unwrap_or, is_none, option_map, option_and_then}
 use Rattle.std.specs.Char.{is_ascii_digit}
 use Rattle.std.specs.List.{list_all}
 use Rattle.std.specs.Str.Parse.{digits_value}
 use Rattle.std.specs.Str.{bytes_eq}
+use Rattle.rt_command.specs.declared.options.Options.{Options}
 use Rattle.rt_command.specs.declared.request.Request.{Request}
 use Rattle.rt_command.specs.declared.request.Request.TheVariants.{Check}
 
@@ -19,18 +20,36 @@ is_number word = nat_le 1 (length word) && nat_le (length word) 20 && list_all i
 abbrev pub number_of : List ℕ → Option ℕ
 number_of word = if is_number word then Some (digits_value 10 word) else None
 
--- what stands after `check`, where the moment may have been given: options, each at most once and before its value,
--- and then one file
-abbrev pub check_of : Option ℕ → List (List ℕ) → Option Request
-check_of moment [] = None
-check_of moment (file ∷ []) = if is_name file then Some (Check None moment (file ∷ [])) else None
-check_of moment (option ∷ value ∷ words) =
-    if bytes_eq option (codes "--now") && is_none moment then option_and_then (λ n. check_of (Some n) words) (number_of value) else None
+abbrev pub no_options : Options
+no_options = record { folder = None; moment = None }
+
+abbrev pub with_folder : Options → List ℕ → Option Options
+with_folder options word = if is_none options.folder && is_name word then Some (record { folder = Some word; moment = options.moment }) else None
+
+abbrev pub with_moment : Options → List ℕ → Option Options
+with_moment options word =
+    if is_none options.moment then option_map (λ n. record { folder = options.folder; moment = Some n }) (number_of word) else None
+
+-- the options with one more and its value; each may be given once
+abbrev pub with_option : Options → List ℕ → List ℕ → Option Options
+with_option options name value =
+    if bytes_eq name (codes "--timetable") then with_folder options value
+    else (if bytes_eq name (codes "--now") then with_moment options value else None)
+
+-- what stands after `check`, behind these options: further options, each before its value, and then one file
+abbrev pub check_of : Options → List (List ℕ) → Option Request
+check_of options [] = None
+check_of options (file ∷ []) = if is_name file then Some (Check options.folder options.moment (file ∷ [])) else None
+check_of options (name ∷ value ∷ words) = option_and_then (λ more. check_of more words) (with_option options name value)
 
 -- the request of these words, if they give one
 abbrev pub request : List (List ℕ) → Option Request
 request [] = None
-request (command ∷ words) = if bytes_eq command (codes "check") then check_of None words else None
+request (command ∷ words) = if bytes_eq command (codes "check") then check_of no_options words else None
+
+-- the timetable's folder that the words of a request name
+abbrev pub folder_of : Request → Option (List ℕ)
+folder_of (Check folder now files) = folder
 
 -- the files that the words of a request name
 abbrev pub files_of : Request → List (List ℕ)

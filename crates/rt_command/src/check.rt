@@ -1,24 +1,59 @@
 //! The command `check`.
-ghost use Rattle.std.specs.Prelude.{◌≡◌, ◌∷◌, [], IfSome, IfOk, IsErrOf, Contains, length};
+ghost use Rattle.std.specs.Prelude.{◌≡◌, ◌∷◌, [], IfSome, IfOk, IsErrOf, Contains, length, option_copied};
 ghost use Rattle.std.specs.FinMap.{get};
 ghost use Rattle.std.specs.Io.KnownBytes.{append_known};
 ghost use Rattle.rt_outside.specs.Causes.{Rose};
 ghost use Rattle.rt_outside.specs.Sink.{AppendsPrefix};
 ghost use Rattle.rt_outside.specs.Store.{contents_told};
-ghost use Rattle.rt_command.specs.Report.{snapshot_report, check_report};
+ghost use Rattle.rt_command.specs.Report.{snapshot_report, files_report, check_report};
 ghost use Rattle.rt_command.specs.Carried.{CarriesOut};
-ghost use Rattle.rt_command.specs.Faults.{IsCarriedOut};
+ghost use Rattle.rt_command.specs.Faults.{IsCarriedOut, IsInput};
 
 use crate::fault::Fault;
 use crate::judge::judge_file;
+use crate::refusal::say_load_fault;
 use crate::say::say_fault;
 use crate::status::Status;
 use feed_values::{Items, Text};
 use rt_outside::{Files, Sink, put_all};
 use std::alloc::Global;
+use timetable::Timetable;
 
 /// Carries out `check` on the one file that `names` has, at this moment, as POSIX time in seconds.
+///
+/// Where a folder is given, its timetable is read first; one that is refused ends the run. No rule looks
+/// at it yet.
 pub fn check<F: Files, S: Sink, E: Sink>(
+    alloc: Global,
+    moment: u64,
+    folder: Option<&Text>,
+    names: &Items<Text>,
+    files: &mut F,
+    out: &mut S,
+    err: &mut E,
+) -> Status
+    requires { length names.now ≡ 1 }
+    ensures { CarriesOut (check_report (option_copied folder.entry) moment names.now)
+        (IsInput (option_copied folder.entry) names.now)
+        (contents_told (F.told files.old)) (F.asked files.new)
+        (Rose (F.faults files.old) (F.faults files.new))
+        (Rose (S.faults out.old) (S.faults out.new)) (Rose (E.faults err.old) (E.faults err.new))
+        (S.written out.old) (S.written out.new) (E.written err.old) (E.written err.new) result }
+{
+    match folder {
+        None => check_first(alloc, moment, names, files, out, err),
+        Some(folder) => {
+            let folder = folder.as_str();
+            match Timetable::load(alloc, files, folder) {
+                Ok(_timetable) => check_first(alloc, moment, names, files, out, err),
+                Err(fault) => say_load_fault(alloc, err, folder, fault),
+            }
+        }
+    }
+}
+
+// Carries out `check` on the one file that `names` has, without a timetable.
+fn check_first<F: Files, S: Sink, E: Sink>(
     alloc: Global,
     moment: u64,
     names: &Items<Text>,
@@ -27,7 +62,7 @@ pub fn check<F: Files, S: Sink, E: Sink>(
     err: &mut E,
 ) -> Status
     requires { length names.now ≡ 1 }
-    ensures { CarriesOut (check_report moment names.now) (Contains names.now)
+    ensures { CarriesOut (files_report moment names.now) (Contains names.now)
         (contents_told (F.told files.old)) (F.asked files.new)
         (Rose (F.faults files.old) (F.faults files.new))
         (Rose (S.faults out.old) (S.faults out.new)) (Rose (E.faults err.old) (E.faults err.new))
@@ -45,7 +80,7 @@ fn check_file<F: Files, S: Sink, E: Sink>(
     out: &mut S,
     err: &mut E,
 ) -> Status
-    ensures { CarriesOut (check_report moment (file.now ∷ [])) (Contains (file.now ∷ []))
+    ensures { CarriesOut (files_report moment (file.now ∷ [])) (Contains (file.now ∷ []))
         (contents_told (F.told files.old)) (F.asked files.new)
         (Rose (F.faults files.old) (F.faults files.new))
         (Rose (S.faults out.old) (S.faults out.new)) (Rose (E.faults err.old) (E.faults err.new))

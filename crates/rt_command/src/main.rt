@@ -24,12 +24,16 @@ mod finding;
 mod header_rule;
 mod judge;
 mod lines;
+mod options;
+mod refusal;
 mod request;
 mod run;
 mod say;
 mod status;
 #[cfg(test)]
 mod tests;
+#[cfg(test)]
+mod timetable_tests;
 mod words;
 
 use rt_outside::{RealFiles, RealSink, Steps};

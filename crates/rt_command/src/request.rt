@@ -1,6 +1,6 @@
 //! What a command line asks for.
-ghost use Rattle.std.specs.Prelude.{◌≡◌};
-ghost use Rattle.rt_command.specs.Words.{files_of, moment_of};
+ghost use Rattle.std.specs.Prelude.{◌≡◌, option_copied};
+ghost use Rattle.rt_command.specs.Words.{folder_of, files_of, moment_of};
 
 use feed_values::{Items, Text};
 
@@ -19,6 +19,15 @@ pub enum Request {
 }
 
 impl Request {
+    /// The timetable's folder, where the words name one.
+    pub fn folder(&self) -> Option<&Text>
+        ensures { option_copied result ≡ folder_of self.now }
+    {
+        match self {
+            Request::Check { folder, .. } => folder.as_ref(),
+        }
+    }
+
     /// The files that the words name.
     pub fn files(&self) -> &Items<Text>
         ensures { result.now ≡ files_of self.now }

@@ -93,5 +93,13 @@ fn carry_out<F: Files, S: Sink, E: Sink>(
         (Rose (S.faults out.old) (S.faults out.new)) (Rose (E.faults err.old) (E.faults err.new))
         (S.written out.old) (S.written out.new) (E.written err.old) (E.written err.new) result }
 {
-    check(alloc, request.moment(now), request.files(), files, out, err)
+    check(
+        alloc,
+        request.moment(now),
+        request.folder(),
+        request.files(),
+        files,
+        out,
+        err,
+    )
 }

@@ -1,5 +1,5 @@
 //! Texts on the error stream.
-ghost use Rattle.std.specs.Prelude.{◌≡◌, ◌++◌, OnOk, OnErr};
+ghost use Rattle.std.specs.Prelude.{◌≡◌, ◌∷◌, ◌++◌, OnOk, OnErr};
 ghost use Rattle.std.specs.Io.KnownBytes.{append_known};
 ghost use Rattle.rt_outside.specs.Causes.{HasCause, Rose};
 ghost use Rattle.rt_outside.specs.Sink.{AppendsPrefix};
@@ -41,6 +41,30 @@ fn say_read_fault<E: Sink>(err: &mut E, name: &str) -> Status
         Ok(()) => Status::ReadFault,
         Err(Failed) => Status::WriteFault,
     }
+}
+
+/// Writes that a file of this folder couldn't be read, and answers so, or `WriteFault` where a put
+/// fails. It takes no memory for the text.
+pub fn say_read_fault_in<E: Sink>(err: &mut E, folder: &str, file: &str) -> Status
+    ensures { Says (read_fault_text (folder.now ++ 47 ∷ file.now)) Status.ReadFault
+        (Rose (E.faults err.old) (E.faults err.new)) (E.written err.old) (E.written err.new) result }
+{
+    match put_read_fault_in(err, folder.as_bytes(), file.as_bytes()) {
+        Ok(()) => Status::ReadFault,
+        Err(Failed) => Status::WriteFault,
+    }
+}
+
+// Writes the text of a read fault, whose name is that of a file in a folder.
+fn put_read_fault_in<E: Sink>(err: &mut E, folder: &[u8], file: &[u8]) -> Result<(), Failed>
+    ensures ok { OnOk result (E.written err.new
+        ≡ append_known (E.written err.old) (read_fault_text (folder.now ++ 47 ∷ file.now))) }
+    ensures err { OnErr result (AppendsPrefix (E.written err.old) (E.written err.new)
+        (read_fault_text (folder.now ++ 47 ∷ file.now))) }
+    ensures cause { HasCause (E.faults err.old) (E.faults err.new) result }
+{
+    put_three(err, b"read fault: ", folder, b"/")?;
+    put_two(err, file, b"\n")
 }
 
 // Writes two pieces.

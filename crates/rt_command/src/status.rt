@@ -15,4 +15,6 @@ pub enum Status {
     WriteFault,
     /// No memory was found.
     Memory,
+    /// The timetable was refused.
+    Refused,
 }

@@ -10,7 +10,7 @@ use std::sync::ledger::{Blank, Ledger};
 use std::test::Fail;
 
 // A header of version 2.0, FULL_DATASET, with the timestamp 1700000000.
-const HEADER: &[u8] = b"\x0a\x0d\x0a\x032.0\x10\x00\x18\x80\xe2\xcf\xaa\x06";
+pub const HEADER: &[u8] = b"\x0a\x0d\x0a\x032.0\x10\x00\x18\x80\xe2\xcf\xaa\x06";
 
 // An entity whose id isn't UTF-8 at its second byte.
 const NO_TEXT: &[u8] = b"\x12\x05\x0a\x03a\xffb";
@@ -55,13 +55,17 @@ fn run_over<F: Files, D: Ledger, T: Ledger>(
 
 // What a run over memory left.
 #[derive(Drop)]
-struct Ended {
-    status: Status,
-    out: MemorySink,
-    err: MemorySink,
+pub struct Ended {
+    pub status: Status,
+    pub out: MemorySink,
+    pub err: MemorySink,
 }
 
-fn run_words<F: Files>(alloc: Global, words: &[&str], files: &mut F) -> Result<Ended, AllocError> {
+pub fn run_words<F: Files>(
+    alloc: Global,
+    words: &[&str],
+    files: &mut F,
+) -> Result<Ended, AllocError> {
     run_into(
         alloc,
         words,
@@ -116,7 +120,7 @@ fn refused(alloc: Global, at: &str, reason: &str) -> Result<String, AllocError> 
     format!(in alloc; "{{\"at\":{at},\"line\":\"refused\",\"reason\":\"{reason}\",\"row\":0}}\n")
 }
 
-fn accepted(alloc: Global, entities: &str) -> Result<String, AllocError> {
+pub fn accepted(alloc: Global, entities: &str) -> Result<String, AllocError> {
     format!(in alloc;
         "{{\"bounded\":{entities},\"entities\":{entities},\"feed\":0,\"line\":\"accepted\",\"moment\":1700000010,\"paired\":{entities},\"row\":0,\"snapshot\":0,\"tested\":{entities}}}\n"
     )
@@ -329,7 +333,17 @@ check --now 18446744073709551616 f
 check --now 000000000000000000005 f
 check --now 5 --now 5 f
 check f --now 5
-check --timetable town f
+check --timetable
+check --timetable town
+check --timetable -town f
+check --timetable=town f
+check --timetable town --timetable town f
+check --timetable town --now 5 --timetable town f
+check --now 5 --timetable town --now 5 f
+check --timetable town --now f
+check --now 5 --timetable f
+check f --timetable town
+check --folder town f
 check -- f
 Check f
 show a b
@@ -347,6 +361,7 @@ fn words_without_a_request_give_the_usage(rt: HostRuntime) -> Result<(), Fail> {
     assert!(rt; is_usage(alloc, &[""])?);
     assert!(rt; is_usage(alloc, &["check", ""])?);
     assert!(rt; is_usage(alloc, &["check", "--now", "", "f"])?);
+    assert!(rt; is_usage(alloc, &["check", "--timetable", "", "f"])?);
     Ok(())
 }
 

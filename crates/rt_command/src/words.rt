@@ -2,42 +2,55 @@
 ghost use Rattle.std.specs.Prelude.{◌≡◌, ◌∷◌, [], IfOk, map, string_bytes};
 ghost use Rattle.std.specs.Char.{is_ascii_digit};
 ghost use Rattle.std.specs.List.{list_all};
-ghost use Rattle.rt_command.specs.Words.{is_name, number_of, check_of, request};
+ghost use Rattle.rt_command.specs.Words.{is_name, number_of, no_options, check_of, request};
 
+use crate::options::Options;
 use crate::request::Request;
 use feed_values::{Items, Text};
 use std::alloc::{AllocError, Global};
 
 /// The request of the words after the program's name, or none where they give no request.
 ///
-/// So far this is `check`, with `--now` and a moment where it is given, and one file. A number has 1
-/// to 20 digits, and its value fits 64 bits.
+/// So far this is `check` with one file, and before it `--timetable` with a folder and `--now` with a
+/// moment, in any order and each at most once. A number has 1 to 20 digits, and its value fits 64
+/// bits. No file and no folder is empty or begins with a dash.
 pub fn words_of(alloc: Global, words: &[String]) -> Result<Option<Request>, AllocError>
     ensures { IfOk result (λ found. found ≡ request (map string_bytes words.now)) }
 {
     match words {
-        [command, words @ ..] if command.as_str() == "check" => check_of(alloc, None, words),
+        [command, words @ ..] if command.as_str() == "check" => {
+            check_of(alloc, no_options(), words)
+        }
         _ => Ok(None),
     }
 }
 
-// The request of the words after `check`, where the moment may have been given.
+fn no_options() -> Options
+    ensures { result ≡ no_options }
+{
+    Options {
+        folder: None,
+        moment: None,
+    }
+}
+
+// The request of the words after `check` and these options.
 fn check_of(
     alloc: Global,
-    moment: Option<u64>,
+    options: Options,
     words: &[String],
 ) -> Result<Option<Request>, AllocError>
-    ensures { IfOk result (λ found. found ≡ check_of moment (map string_bytes words.now)) }
+    ensures { IfOk result (λ found. found ≡ check_of options (map string_bytes words.now)) }
 {
     match words {
         [file] if is_name(file.as_str()) => Ok(Some(Request::Check {
-            folder: None,
-            now: moment,
+            folder: options.folder,
+            now: options.moment,
             files: one_text(alloc, file.as_str())?,
         })),
-        [option, value, words @ ..] if option.as_str() == "--now" && moment.is_none() => {
-            match number_of(value.as_str()) {
-                Some(number) => check_of(alloc, Some(number), words),
+        [name, value, words @ ..] => {
+            match options.with(alloc, name.as_str(), value.as_str())? {
+                Some(options) => check_of(alloc, options, words),
                 None => Ok(None),
             }
         }
@@ -45,8 +58,8 @@ fn check_of(
     }
 }
 
-// The number that a word writes.
-fn number_of(word: &str) -> Option<u64>
+/// The number that a word writes.
+pub fn number_of(word: &str) -> Option<u64>
     ensures { result ≡ number_of word.now }
 {
     if word.len() > 20 || !are_digits(word) {
@@ -62,20 +75,27 @@ fn are_digits(word: &str) -> bool
     word.bytes().all(|byte| byte.is_ascii_digit())
 }
 
-// Whether a word may name a file: it isn't empty and doesn't begin with a dash.
-fn is_name(word: &str) -> bool
+/// Whether a word may name a file: it isn't empty and doesn't begin with a dash.
+pub fn is_name(word: &str) -> bool
     ensures { result ≡ is_name word.now }
 {
     !word.is_empty() && word.as_bytes()[0] != b'-'
+}
+
+/// The text of a word.
+pub fn text_of(alloc: Global, word: &str) -> Result<Text, AllocError>
+    ensures { IfOk result (λ text. text ≡ word.now) }
+{
+    let mut text = Text::new(alloc);
+    text.push(word)?;
+    Ok(text)
 }
 
 // The list of one text.
 fn one_text(alloc: Global, word: &str) -> Result<Items<Text>, AllocError>
     ensures { IfOk result (λ texts. texts ≡ word.now ∷ []) }
 {
-    let mut text = Text::new(alloc);
-    text.push(word)?;
     let mut texts = Items::new(alloc);
-    texts.push(text)?;
+    texts.push(text_of(alloc, word)?)?;
     Ok(texts)
 }

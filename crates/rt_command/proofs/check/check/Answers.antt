@@ -1,10 +1,33 @@
-use Rattle.std.proofs.Common.{refl}
-use Rattle.rt_command.proofs.Carried.{carried_at}
-use Rattle.rt_command.proofs.Requests.{one_name}
+use Rattle.std.proofs.Common.{inl, inr, refl, sym, ap, ◌∙◌, Some, None, Err}
+use Rattle.std.specs.Option.{option_copied}
+use Rattle.std.specs.List.{Contains}
+use Rattle.rt_command.proofs.Carried.{carried_at, carried_within, carried_load_fault}
+use Rattle.rt_command.proofs.Refusals.{no_timetable, accepted_timetable, refused_timetable, rose_before}
+use Rattle.rt_command.specs.Faults.{IsInput}
+use Rattle.rt_command.specs.Report.{check_report, files_report}
 use Rattle.rt_command.proofs.check.check.Goals as goal
 
-pub returns : goal.returns
-returns g c =
-    carried_at c.args.moment _ _ c.args.names.now _ _ _ _ _ _ _ _ _ c.check_file.result refl
-    (one_name c.args.names.now c.as_slice.result.now c.index-as_slice-0.result c.as_str.result.now c.requires c.as_slice.ensures c.index-as_slice-0.is c.as_str.ensures)
-    c.check_file.ensures
+pub returns-in-None : goal.returns-in-None
+returns-in-None g c =
+    carried_at None (option_copied c.args.folder) c.args.moment _ c.args.names.now _ _ _ _ _ _ _ _ _ _ c.check_first.result (ap option_copied (sym c.in-None.is)) refl refl
+    (carried_within (files_report c.args.moment c.args.names.now) (check_report None c.args.moment c.args.names.now) (Contains c.args.names.now)
+    (IsInput None c.args.names.now) _ _ _ _ _ _ _ _ _ c.check_first.result (λ name is. inl is) (λ rose. rose) _ _ refl
+    (no_timetable _ c.args.moment c.args.names.now) c.check_first.ensures)
+
+pub returns-in-Ok : goal.returns-in-Ok
+returns-in-Ok g c =
+    carried_at (Some c.as_str-folder.result.now) (option_copied c.args.folder) c.args.moment _ c.args.names.now _ _ _ _ _ _ _ _ _ _ c.check_first-in-Ok.result
+    (ap Some c.as_str-folder.ensures ∙ ap option_copied (sym c.in-Some.is)) refl refl
+    (carried_within (files_report c.args.moment c.args.names.now) (check_report (Some c.as_str-folder.result.now) c.args.moment c.args.names.now)
+    (Contains c.args.names.now) (IsInput (Some c.as_str-folder.result.now) c.args.names.now) _ _ _ _ _ _ _ _ _ c.check_first-in-Ok.result (λ name is. inl is)
+    (rose_before _ _ _ c.load.ensures.later) _ _ c.load.ensures.contents
+    (accepted_timetable _ c.as_str-folder.result.now c.args.moment c.args.names.now _ c.in-Ok.ensures.ok) c.check_first-in-Ok.ensures)
+
+pub returns-in-Err : goal.returns-in-Err
+returns-in-Err g c =
+    carried_at (Some c.as_str-folder.result.now) (option_copied c.args.folder) c.args.moment _ c.args.names.now _ _ _ _ _ _ _ _ _ _ c.say_load_fault.result
+    (ap Some c.as_str-folder.ensures ∙ ap option_copied (sym c.in-Some.is)) refl refl
+    (carried_load_fault (check_report (Some c.as_str-folder.result.now) c.args.moment c.args.names.now) (IsInput (Some c.as_str-folder.result.now) c.args.names.now) _ _ _ _ _ _ _ _
+    c.say_load_fault.result c.as_str-folder.result.now (λ file. inr (file, refl)) c.in-Err.fault
+    (λ read memory. refused_timetable _ c.as_str-folder.result.now c.args.moment c.args.names.now c.in-Err.fault (c.in-Err.ensures.err memory read))
+    (λ file e. (c.in-Err.ensures.cause file (ap Err e), c.in-Err.ensures.asked file (ap Err e))) c.say_load_fault.ensures)

@@ -1,8 +1,11 @@
-use Rattle.std.proofs.Common.{map, string_bytes}
+use Rattle.std.proofs.Common.{◌≡◌, map, string_bytes, subst}
+use Rattle.std.specs.Io.KnownBytes.{append_known}
+use Rattle.rt_outside.specs.Causes.{Rose}
+use Rattle.rt_outside.specs.Sink.{AppendsPrefix}
 use Rattle.rt_command.specs.declared.status.Status.TheVariants as answer
-use Rattle.rt_command.specs.Faults.{says_memory, says_usage}
+use Rattle.rt_command.specs.Faults.{says_memory, says_usage, Reads, TellsFault}
 use Rattle.rt_command.proofs.Requests.{request_names_one}
-use Rattle.rt_command.proofs.Told.{tells, usage_told, text_told}
+use Rattle.rt_command.proofs.Told.{tells, usage_told, report_told}
 use Rattle.rt_command.proofs.run.run.Goals as goal
 
 pub returns-in-Err-clause-told : goal.returns-in-Err-clause-told
@@ -16,7 +19,25 @@ pub returns-in-Ok-None-clause-told : goal.returns-in-Ok-None-clause-told
 returns-in-Ok-None-clause-told g c = tells _ _ _ _ _ _ answer.Usage c.say-in-Ok-None.result says_usage (λ w. tt) c.say-in-Ok-None.ensures
 
 pub returns-in-Ok-Some-clause-text : goal.returns-in-Ok-Some-clause-text
-returns-in-Ok-Some-clause-text g c = text_told _ _ _ _ _ _ (rw c.in-Ok-Some.field-0-is at c.in-Ok-Some.ensures) c.carry_out.ensures.text
+returns-in-Ok-Some-clause-text g c =
+    report_told (λ r. AppendsPrefix (g.S.Sink.written c.args.out.now) (g.S.Sink.written c.carry_out.new.out) r.text) _ _ _ _
+    (rw c.in-Ok-Some.field-0-is at c.in-Ok-Some.ensures) c.carry_out.ensures.text
+
+pub returns-in-Ok-Some-clause-whole : goal.returns-in-Ok-Some-clause-whole
+returns-in-Ok-Some-clause-whole g c reported =
+    report_told (λ r. g.S.Sink.written c.carry_out.new.out ≡ append_known (g.S.Sink.written c.args.out.now) r.text) _ _ _ _
+    (rw c.in-Ok-Some.field-0-is at c.in-Ok-Some.ensures) (c.carry_out.ensures.whole reported)
+
+pub returns-in-Ok-Some-clause-errors : goal.returns-in-Ok-Some-clause-errors
+returns-in-Ok-Some-clause-errors g c reported =
+    report_told (λ r. g.E.Sink.written c.carry_out.new.err ≡ append_known (g.E.Sink.written c.args.err.now) r.errors) _ _ _ _
+    (rw c.in-Ok-Some.field-0-is at c.in-Ok-Some.ensures) (c.carry_out.ensures.errors reported)
+
+pub returns-in-Ok-Some-clause-told : goal.returns-in-Ok-Some-clause-told
+returns-in-Ok-Some-clause-told g c =
+    subst (λ asked. TellsFault (Reads asked) (g.F.Files.asked c.carry_out.new.files)
+    (Rose (g.E.Sink.faults c.args.err.now) (g.E.Sink.faults c.carry_out.new.err)) (g.E.Sink.written c.args.err.now) (g.E.Sink.written c.carry_out.new.err) c.carry_out.result)
+    (rw c.in-Ok-Some.field-0-is at c.in-Ok-Some.ensures) c.carry_out.ensures.told
 
 pub carry_out-requires : goal.carry_out-requires
 carry_out-requires g c = request_names_one (map string_bytes c.args.words.now) _ (rw c.in-Ok-Some.field-0-is at c.in-Ok-Some.ensures)
