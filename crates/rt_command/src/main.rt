@@ -7,10 +7,10 @@
 //!
 //! From the bottom up:
 //! - `status` and `fault` are how a run ends, and why it stops before its end.
-//! - `request` is what the words ask for, and `words` reads them.
+//! - `options` and `request` are what the words ask for, and `words` reads them.
 //! - `cell`, `header_rule` and `finding` judge a header by the rows of a table.
 //! - `lines` has the lines of a report, and `judge` the report on one snapshot.
-//! - `say` writes to the error stream.
+//! - `say` writes to the error stream, and `refusal` why a timetable isn't loaded.
 //! - `check` carries out its command, and `run` the request of the words.
 //! - `main` joins `run` to the system: its files, its streams, its clock and its words.
 #![tactic(auto)]

@@ -1,11 +1,10 @@
 //! Why a timetable isn't loaded.
-ghost use Rattle.std.specs.Prelude.{◌≡◌, IfOk, OnOk, OnErr, string_bytes};
-ghost use Rattle.std.specs.Io.KnownBytes.{append_known};
+ghost use Rattle.std.specs.Prelude.{◌≡◌, IfOk, string_bytes};
 ghost use Rattle.rt_outside.specs.Causes.{Rose};
 ghost use Rattle.rt_command.specs.Inputs.{refusal_text};
 ghost use Rattle.rt_command.specs.Faults.{SaysLoadFault};
 
-use crate::say::{say, say_read_fault_in};
+use crate::say::{say, say_memory, say_read_fault_in};
 use crate::status::Status;
 use rt_outside::Sink;
 use std::alloc::{AllocError, Global};
@@ -18,10 +17,10 @@ pub fn say_load_fault<E: Sink>(alloc: Global, err: &mut E, folder: &str, fault: 
 {
     match fault {
         LoadFault::ReadFault(file) => say_read_fault_in(err, folder, file.name()),
-        LoadFault::Memory => say(err, b"out of memory\n", Status::Memory),
+        LoadFault::Memory => say_memory(err),
         _ => match refusal_text(alloc, folder, fault) {
             Ok(text) => say(err, text.as_bytes(), Status::Refused),
-            Err(_) => say(err, b"out of memory\n", Status::Memory),
+            Err(_) => say_memory(err),
         },
     }
 }

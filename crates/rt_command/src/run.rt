@@ -11,7 +11,7 @@ ghost use Rattle.rt_command.specs.Faults.{Reads, IsReported, IsWithoutRequest, T
 
 use crate::check::check;
 use crate::request::Request;
-use crate::say::say;
+use crate::say::{say, say_memory};
 use crate::status::Status;
 use crate::words::words_of;
 use rt_outside::{Files, Sink, Steps};
@@ -71,7 +71,7 @@ pub fn run<F: Files, S: Sink, E: Sink, D: Ledger, T: Ledger>(
         (Rose (E.faults err.old) (E.faults err.new)) (E.written err.old) (E.written err.new) result }
 {
     match words_of(alloc, words) {
-        Err(_) => say(err, b"out of memory\n", Status::Memory),
+        Err(_) => say_memory(err),
         Ok(None) => say(err, USAGE, Status::Usage),
         Ok(Some(request)) => carry_out(alloc, &request, now, files, out, err),
     }

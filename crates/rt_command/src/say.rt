@@ -3,7 +3,7 @@ ghost use Rattle.std.specs.Prelude.{◌≡◌, ◌∷◌, ◌++◌, OnOk, OnErr}
 ghost use Rattle.std.specs.Io.KnownBytes.{append_known};
 ghost use Rattle.rt_outside.specs.Causes.{HasCause, Rose};
 ghost use Rattle.rt_outside.specs.Sink.{AppendsPrefix};
-ghost use Rattle.rt_command.specs.Faults.{Says, SaysFault, read_fault_text};
+ghost use Rattle.rt_command.specs.Faults.{Says, SaysFault, memory_text, read_fault_text};
 
 use crate::fault::Fault;
 use crate::status::Status;
@@ -20,6 +20,14 @@ pub fn say<E: Sink>(err: &mut E, text: &[u8], meant: Status) -> Status
     }
 }
 
+/// Tells that no memory was found, and answers so, or `WriteFault` where a put fails.
+pub fn say_memory<E: Sink>(err: &mut E) -> Status
+    ensures { Says memory_text Status.Memory (Rose (E.faults err.old) (E.faults err.new))
+        (E.written err.old) (E.written err.new) result }
+{
+    say(err, b"out of memory\n", Status::Memory)
+}
+
 /// Tells a fault, and answers it. A read fault is that of `file`.
 pub fn say_fault<E: Sink>(err: &mut E, fault: Fault, file: &str) -> Status
     ensures { SaysFault fault file.now (Rose (E.faults err.old) (E.faults err.new))
@@ -28,7 +36,7 @@ pub fn say_fault<E: Sink>(err: &mut E, fault: Fault, file: &str) -> Status
     match fault {
         Fault::Read => say_read_fault(err, file),
         Fault::Write => say(err, b"write fault\n", Status::WriteFault),
-        Fault::Memory => say(err, b"out of memory\n", Status::Memory),
+        Fault::Memory => say_memory(err),
     }
 }
 

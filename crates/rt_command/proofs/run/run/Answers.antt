@@ -9,14 +9,14 @@ use Rattle.rt_command.proofs.Told.{tells, usage_told, report_told}
 use Rattle.rt_command.proofs.run.run.Goals as goal
 
 pub returns-in-Err-clause-told : goal.returns-in-Err-clause-told
-returns-in-Err-clause-told g c = tells _ _ _ _ _ _ answer.Memory c.say.result says_memory (λ w. w) c.say.ensures
+returns-in-Err-clause-told g c = tells _ _ _ _ _ _ answer.Memory c.say_memory.result says_memory (λ w. w) c.say_memory.ensures
 
 pub returns-in-Ok-None-clause-errors : goal.returns-in-Ok-None-clause-errors
 returns-in-Ok-None-clause-errors g c reported =
-    usage_told _ _ _ _ _ _ _ (rw c.in-Ok-None.field-0-is at c.in-Ok-None.ensures) c.say-in-Ok-None.ensures reported
+    usage_told _ _ _ _ _ _ _ (rw c.in-Ok-None.field-0-is at c.in-Ok-None.ensures) c.say.ensures reported
 
 pub returns-in-Ok-None-clause-told : goal.returns-in-Ok-None-clause-told
-returns-in-Ok-None-clause-told g c = tells _ _ _ _ _ _ answer.Usage c.say-in-Ok-None.result says_usage (λ w. tt) c.say-in-Ok-None.ensures
+returns-in-Ok-None-clause-told g c = tells _ _ _ _ _ _ answer.Usage c.say.result says_usage (λ w. tt) c.say.ensures
 
 pub returns-in-Ok-Some-clause-text : goal.returns-in-Ok-Some-clause-text
 returns-in-Ok-Some-clause-text g c =
