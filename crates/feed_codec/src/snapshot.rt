@@ -7,6 +7,7 @@ ghost use Rattle.feed_values.specs.Views.{feed_message_value};
 ghost use Rattle.feed_values.specs.WellFormed.{IsWellFormedFeed};
 ghost use Rattle.feed_codec.specs.Refusal.{Answers, first_in, in_payload, part_fault, end_fault, refusal};
 ghost use Rattle.feed_codec.specs.Decoded.{Decodes};
+ghost use Rattle.feed_codec.specs.declared.codec_fault.CodecFault.TheVariants.{Memory};
 
 use crate::checking::{check_message, reason_of};
 use crate::codec_fault::CodecFault;
@@ -115,14 +116,18 @@ pub fn check_snapshot(bytes: &[u8]) -> Result<(), Refusal>
 
 /// What the bytes of a snapshot mean, or their first fault, which is that of `check_snapshot`.
 ///
+/// Bytes are refused whatever memory there is: `Memory` is answered only where they are accepted. What is given is well
+/// formed, so that `encode` takes it.
+///
 /// A number, text or enum that comes more than once holds the last, a message that comes in parts all of them together, and
 /// a repeated field each in order. Bits past a number's width are dropped. An enum number that the reference doesn't name,
-/// and each field of no slot, is kept as unknown. Whether a snapshot is refused never hangs on memory.
+/// and each field of no slot, is kept as unknown.
 /// (Protocol Buffers, Encoding, "Last One Wins", "Submessages"; GTFS Realtime Reference 2.0, "Elements".)
 #[tactic(auto, using(crate::proofs::Snapshots::fine_snapshot))]
 pub fn decode(alloc: Global, bytes: &[u8]) -> Result<FeedMessage, CodecFault>
     ensures value { Decodes feed_message_value result (refusal bytes.now) (meaning feed_message (fields bytes.now)) }
     ensures well_formed { IfOk result (λ message. IsWellFormedFeed (feed_message_value message)) }
+    ensures memory { result ≡ Err Memory → refusal bytes.now ≡ None }
 {
     check_snapshot(bytes)?;
     Ok(message_of(alloc, bytes)?)
