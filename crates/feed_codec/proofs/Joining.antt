@@ -2,7 +2,7 @@
 use Rattle.std.proofs.Common.{◌≡◌, ℕ, ◌≤◌, Bool, true, false, cond, eqb, List, [], ◌∷◌, ◌++◌, append_assoc, length, map, Option, Some, None, Result, Ok, Err, refl, sym, ap, subst, ◌∙◌, rules}
 use Rattle.std.specs.Option.{option_map, option_or}
 use Rattle.std.specs.List.{flat_map, AllByRecursion, concat}
-use Rattle.std.specs.Prelude.{IfSome, IfOk}
+use Rattle.std.specs.Prelude.{IfOk}
 use Rattle.std.specs.declared.alloc.AllocError.{AllocError}
 use Rattle.std.proofs.lemmas.Bool.{le-ltb, eqb-true}
 use Rattle.rt_wire.specs.declared.fault.WireFault.{WireFault}
@@ -13,15 +13,15 @@ use Rattle.feed_values.specs.declared.required.Required.{Required}
 use Rattle.feed_values.specs.declared.required.Required.TheVariants as required
 use Rattle.feed_values.specs.declared.feed_header.FeedHeader.{FeedHeader}
 use Rattle.feed_values.specs.Schema.{Needed, Value, Rises}
-use Rattle.feed_values.specs.Messages.{feed_message, feed_header, entity}
+use Rattle.feed_values.specs.Messages.{feed_header, entity}
 use Rattle.feed_values.specs.Meaning.{fields, whole_fields, given, in_slot, payload_in, option_case, meaning}
 use Rattle.feed_values.specs.Views.{feed_header_value}
 use Rattle.feed_values.specs.WellFormed.{IsWellFormed}
-use Rattle.feed_values.specs.Accepted.{IsWhole, IsMessage, missing, missing_message, first_missing, header_fields, is_differential, snapshot_limit}
+use Rattle.feed_values.specs.Accepted.{IsWhole, IsMessage, missing, missing_message, first_missing, is_differential, snapshot_limit}
 use Rattle.feed_codec.specs.declared.refusal.Refusal.{Refusal}
-use Rattle.feed_codec.specs.declared.refusal.Reason.TheVariants.{MissingField, Differential}
+use Rattle.feed_codec.specs.declared.refusal.Reason.TheVariants.{Differential}
 use Rattle.feed_codec.specs.Merging.{TextsAreUtf8}
-use Rattle.feed_codec.specs.Refusal.{refused, shifted, first_in, in_payload, first_fault, entity_fault, part_fault, missing_at, header_fault, end_fault, refusal}
+use Rattle.feed_codec.specs.Refusal.{refused, shifted, first_in, in_payload, first_fault, part_fault, missing_at, end_fault, refusal}
 use Rattle.feed_codec.specs.Parts.{Passed, IsJoined, header_end, PartsDecide}
 use Rattle.feed_codec.proofs.Bytes.{bytes_left, bytes_right, bytes_concat, given_bytes, fields_bytes}
 use Rattle.feed_codec.proofs.Firsts.{none_faultless}
