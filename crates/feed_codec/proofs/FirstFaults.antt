@@ -1,23 +1,21 @@
 -- The first fault of a message and of a snapshot is the one that the relation says.
-use Rattle.std.proofs.Common.{◌≡◌, ℕ, zero, suc, ◌+◌, ◌<◌, ◌≤◌, Bool, true, false, cond, eqb, take, List, [], ◌∷◌, length, Option, Some, None, refl, sym, ap, ◌∙◌, arith, inl, inr, ◌⊎◌, nat_lt}
-use Rattle.std.specs.Prelude.{IfSome, ◌↔◌}
+use Rattle.std.proofs.Common.{◌≡◌, ℕ, zero, suc, ◌<◌, ◌≤◌, Bool, true, false, cond, eqb, take, List, length, Option, Some, refl, sym, ◌∙◌, arith, inl, inr}
+use Rattle.std.specs.Prelude.{IfSome}
 use Rattle.std.specs.Bool.{MatchBool}
-use Rattle.std.specs.Option.{option_map, option_or}
-use Rattle.std.specs.List.{AllByRecursion}
 use Rattle.std.specs.Str.{IsUtf8, is_utf8}
 use Rattle.std.specs.Str.Lossy.{utf8_valid_len, valid_len_up_to}
 use Rattle.std.proofs.lemmas.Str.{IsUtf8-nil, IsUtf8-from_is_utf8, is_utf8-from_IsUtf8, utf8_valid_len-IsUtf8, utf8_valid_len_le}
-use Rattle.std.proofs.lemmas.Bool.{eqb-true, eq-eqb, ne_eqb, cases_lt}
-use Rattle.rt_wire.specs.Fields.{IsBytes, WireField, Len, Joins, Spells}
+use Rattle.std.proofs.lemmas.Bool.{eq-eqb, ne_eqb, cases_lt}
+use Rattle.rt_wire.specs.Fields.{IsBytes, WireField, Len}
 use Rattle.rt_wire.specs.Placed.{placed_fields}
 use Rattle.feed_values.specs.Schema as schema
 use Rattle.feed_values.specs.Schema.{Schema}
 use Rattle.feed_values.specs.Meaning.{payload_in}
-use Rattle.feed_values.specs.Accepted.{IsWhole, IsMessage}
+use Rattle.feed_values.specs.Accepted.{IsWhole}
 use Rattle.feed_codec.specs.declared.refusal.Reason.TheVariants.{NotText}
 use Rattle.feed_codec.specs.declared.refusal.Refusal.{Refusal}
-use Rattle.feed_codec.specs.Refusal.{refused, text_fault, first_in, in_payload, payload_fault, first_fault}
-use Rattle.feed_codec.specs.FirstFault.{NoText, FirstIn, PayloadWrong, FirstFault}
+use Rattle.feed_codec.specs.Refusal.{refused, text_fault, first_in, in_payload, payload_fault}
+use Rattle.feed_codec.specs.FirstFault.{NoText, FirstIn, PayloadWrong}
 use Rattle.feed_codec.proofs.ValidTexts.{nothing, text_fine}
 use Rattle.feed_codec.proofs.Firsts.{Agrees, Faultless, found_first, first_found, none_faultless, faultless_none}
 

@@ -10,11 +10,10 @@ use Rattle.rt_wire.specs.Placed.{PlacedField, placed_fields, placed_fields_from,
 use Rattle.rt_wire.specs.Placed.{fault_moved}
 use Rattle.rt_wire.specs.Faults.{OwnFault}
 use Rattle.std.specs.Prelude.{MatchOption}
-use Rattle.rt_wire.specs.Laws.{HandedOut, ReadOf, StandInOrder, FaultBehind, fault_last}
+use Rattle.rt_wire.specs.Laws.{FaultBehind, fault_last}
 use Rattle.rt_wire.proofs.Complete.{field_reads, some_of}
 use Rattle.rt_wire.proofs.Stream.{left_field, left_none}
 use Rattle.rt_wire.proofs.Whole.{spelled_is_read, read_is_spelled, join_is_read, fault_is_exact}
-use Rattle.rt_wire.proofs.Places.{At}
 use Rattle.feed_values.specs.Meaning.{payload_in, option_case}
 use Rattle.feed_codec.specs.declared.refusal.Refusal.{Refusal}
 use Rattle.feed_codec.specs.Refusal.{refused, shifted, own_fault, first_in, in_payload}

@@ -1,11 +1,9 @@
 -- What a header gives, field by field.
-use Rattle.std.proofs.Common.{◌≡◌, ℕ, ℤ, Bool, true, false, cond, List, [], ◌∷◌, ◌++◌, Option, Some, None, refl, sym, ap, ◌∙◌}
-use Rattle.std.specs.Option.{is_some, option_or}
-use Rattle.std.specs.List.{flat_map, list_any}
-use Rattle.std.proofs.lemmas.List.{append-nil}
+use Rattle.std.proofs.Common.{◌≡◌, ℤ, cond, List, [], ◌∷◌, ◌++◌, Option, Some, None, refl, sym, ap, ◌∙◌}
+use Rattle.std.specs.Option.{option_or}
+use Rattle.std.specs.List.{flat_map}
 use Rattle.std.proofs.lemmas.List.Concat.{flat_map-append}
 use Rattle.rt_wire.specs.Fields.{WireField}
-use Rattle.feed_values.specs.declared.required.Required.{Required}
 use Rattle.feed_values.specs.declared.required.Required.TheVariants as required
 use Rattle.feed_values.specs.Schema.{Needed, Enum}
 use Rattle.feed_values.specs.Messages.{feed_header}

@@ -1,8 +1,9 @@
 -- Payloads that pass by themselves, taken together.
-use Rattle.std.proofs.Common.{◌≡◌, ℕ, ◌≤◌, Bool, true, false, cond, eqb, List, [], ◌∷◌, ◌++◌, length, map, Option, Some, None, Result, Ok, Err, refl, sym, ap, ◌∙◌}
+use Rattle.std.proofs.Common.{◌≡◌, ℕ, ◌≤◌, Bool, true, false, cond, eqb, List, [], ◌∷◌, ◌++◌, append_assoc, length, map, Option, Some, None, Result, Ok, Err, refl, sym, ap, subst, ◌∙◌, rules}
 use Rattle.std.specs.Option.{option_map, option_or}
 use Rattle.std.specs.List.{flat_map, AllByRecursion, concat}
-use Rattle.std.specs.Prelude.{IfSome}
+use Rattle.std.specs.Prelude.{IfOk}
+use Rattle.std.specs.declared.alloc.AllocError.{AllocError}
 use Rattle.std.proofs.lemmas.Bool.{le-ltb, eqb-true}
 use Rattle.rt_wire.specs.declared.fault.WireFault.{WireFault}
 use Rattle.rt_wire.specs.Fields.{IsBytes, WireField, Joins, Spells}
@@ -10,14 +11,17 @@ use Rattle.rt_wire.specs.Placed.{PlacedField, placed_fields, placed_fields_from,
 use Rattle.rt_wire.proofs.Whole.{spelled_is_read, join_is_read}
 use Rattle.feed_values.specs.declared.required.Required.{Required}
 use Rattle.feed_values.specs.declared.required.Required.TheVariants as required
-use Rattle.feed_values.specs.Schema.{Needed}
-use Rattle.feed_values.specs.Messages.{feed_message, feed_header, entity}
-use Rattle.feed_values.specs.Meaning.{fields, whole_fields, given, in_slot, payload_in, option_case}
-use Rattle.feed_values.specs.Accepted.{missing, missing_message, first_missing, header_fields, is_differential, snapshot_limit}
+use Rattle.feed_values.specs.declared.feed_header.FeedHeader.{FeedHeader}
+use Rattle.feed_values.specs.Schema.{Needed, Value, Rises}
+use Rattle.feed_values.specs.Messages.{feed_header, entity}
+use Rattle.feed_values.specs.Meaning.{fields, whole_fields, given, in_slot, payload_in, option_case, meaning}
+use Rattle.feed_values.specs.Views.{feed_header_value}
+use Rattle.feed_values.specs.WellFormed.{IsWellFormed}
+use Rattle.feed_values.specs.Accepted.{IsWhole, IsMessage, missing, missing_message, first_missing, is_differential, snapshot_limit}
 use Rattle.feed_codec.specs.declared.refusal.Refusal.{Refusal}
-use Rattle.feed_codec.specs.declared.refusal.Reason.TheVariants.{MissingField, Differential}
+use Rattle.feed_codec.specs.declared.refusal.Reason.TheVariants.{Differential}
 use Rattle.feed_codec.specs.Merging.{TextsAreUtf8}
-use Rattle.feed_codec.specs.Refusal.{refused, shifted, first_in, in_payload, first_fault, entity_fault, part_fault, missing_at, header_fault, end_fault, refusal}
+use Rattle.feed_codec.specs.Refusal.{refused, shifted, first_in, in_payload, first_fault, part_fault, missing_at, end_fault, refusal}
 use Rattle.feed_codec.specs.Parts.{Passed, IsJoined, header_end, PartsDecide}
 use Rattle.feed_codec.proofs.Bytes.{bytes_left, bytes_right, bytes_concat, given_bytes, fields_bytes}
 use Rattle.feed_codec.proofs.Firsts.{none_faultless}
@@ -25,6 +29,7 @@ use Rattle.feed_codec.proofs.ValidTexts.{nothing, neither, unmapped, fine_of}
 use Rattle.feed_codec.proofs.SnapshotFaults.{bytes_agree, parts_agree}
 use Rattle.feed_values.proofs.SnapshotFields.{fields_are}
 use Rattle.feed_codec.proofs.Snapshots.{complete_entities}
+use Rattle.feed_codec.proofs.WellFormedValues.{DefaultsFit, meaning_fits}
 
 -- ---- the fields of a join
 
@@ -69,6 +74,30 @@ fine_all (p ∷ ps) h = all_append (TextsAreUtf8 feed_header) (fields p) (flat_m
 
 pub fine_joined : (parts : List ℕ) → IsBytes parts → IsJoined parts → AllByRecursion (TextsAreUtf8 feed_header) (fields parts)
 fine_joined parts ok j = rw j.2 (rw (fields_joined j.0 (rw j.2 at ok) j.1) (fine_all j.0 j.1))
+
+-- ---- what a header's payloads mean together
+
+joins_append : (l m : List WireField) (a b : List ℕ) → Joins (Spells 100) l a → Joins (Spells 100) m b → Joins (Spells 100) (l ++ m) (a ++ b)
+joins_append [] m a b j k = rw j k
+joins_append (r ∷ l) m a b j k = (j.0, j.1 ++ b, ap (λ (t : List ℕ). t ++ b) j.2 ∙ append_assoc j.0 j.1 b, j.3, joins_append l m j.1 b j.4 k)
+
+joined_message : (ps : List (List ℕ)) → IsBytes (concat ps) → Passed ps → IsMessage feed_header (concat ps)
+joined_message [] ok h = ([], refl, tt)
+joined_message (p ∷ ps) ok h =
+    let m = (bytes_agree feed_header).none p (bytes_left p (concat ps) ok) h.0 in
+    let n = joined_message ps (bytes_right p (concat ps) ok) h.1 in
+    (m.0 ++ n.0, joins_append m.0 n.0 p (concat ps) m.1 n.1, all_append (IsWhole feed_header) m.0 n.0 m.2 n.2)
+
+header_rises : Rises 0 feed_header
+header_rises = search rules
+
+header_defaults : DefaultsFit feed_header
+header_defaults = search rules
+
+pub header_fits : (parts : List ℕ) (answer : Result FeedHeader AllocError) → IsBytes parts → IsJoined parts → IfOk answer (λ header. feed_header_value header ≡ meaning feed_header (fields parts))
+    → IfOk answer (λ header. IsWellFormed feed_header (feed_header_value header))
+header_fits parts (Err a) ok j is = tt
+header_fits parts (Ok header) ok j is = subst (λ (v : Value feed_header). IsWellFormed feed_header v) (sym is) (meaning_fits feed_header parts header_rises header_defaults ok (rw j.2 (joined_message j.0 (rw j.2 at ok) j.1)))
 
 -- ---- a snapshot by its parts
 

@@ -1,8 +1,8 @@
 -- A message that takes its fields one by one comes to what they mean together.
-use Rattle.std.proofs.Common.{◌≡◌, ℕ, ◌≤◌, ◌<◌, ℤ, pos, Bool, true, false, not, cond, eqb, ◌||◌, List, [], ◌∷◌, ◌++◌, map, Option, Some, None, refl, sym, ap, subst, ◌∙◌, append_assoc, arith, inl, inr, ◌⊎◌}
-use Rattle.std.specs.Option.{option_map, is_some, option_or, unwrap_or}
+use Rattle.std.proofs.Common.{◌≡◌, ℕ, ◌≤◌, pos, Bool, true, false, not, cond, eqb, ◌||◌, List, [], ◌∷◌, ◌++◌, map, Option, Some, None, refl, sym, ap, ◌∙◌, append_assoc, arith, inl, inr, ◌⊎◌}
+use Rattle.std.specs.Option.{option_map, is_some, unwrap_or}
 use Rattle.std.specs.List.{filter, flat_map}
-use Rattle.std.proofs.lemmas.Bool.{eq-eqb, ne_eqb, eqb-true, cases_lt}
+use Rattle.std.proofs.lemmas.Bool.{ne_eqb, eqb-true, cases_lt}
 use Rattle.std.proofs.lemmas.List.{append-nil, map_push}
 use Rattle.std.proofs.lemmas.List.Elements.{filter-append}
 use Rattle.std.proofs.lemmas.List.Concat.{flat_map-append}
@@ -11,7 +11,7 @@ use Rattle.rt_wire.specs.Fields as wire
 use Rattle.feed_values.specs.Schema as schema
 use Rattle.feed_values.specs.Schema.{Schema, Presence, Needed, Optional, Value, Held, held, present, blank, Rises}
 use Rattle.feed_values.specs.Meaning.{fields, scalar_in, payload_in, in_slot, option_case, given, last_of, is_of_slot, joined, slots_of, meaning}
-use Rattle.feed_codec.specs.Merging.{merged_scalar, merged_text, merged_message, merged_repeated, kept, taken_in, merged, with_field, with_fields}
+use Rattle.feed_codec.specs.Merging.{merged_scalar, merged_text, merged_message, merged_repeated, kept, taken_in, merged, with_fields}
 
 -- ---- lists
 

@@ -1,5 +1,5 @@
 -- What is missing in an entity, by what is held at paths of slots.
-use Rattle.std.proofs.Common.{◌≡◌, ℕ, Bool, true, false, not, cond, ◌&&◌, ◌||◌, List, [], ◌∷◌, Option, Some, None, refl, sym, ap, ◌∙◌}
+use Rattle.std.proofs.Common.{◌≡◌, ℕ, Bool, true, false, not, cond, ◌&&◌, ◌||◌, List, [], ◌∷◌, Option, Some, None, refl, ap, ◌∙◌}
 use Rattle.std.specs.Option.{is_some, option_or}
 use Rattle.std.specs.List.{flat_map, list_any}
 use Rattle.rt_wire.specs.Fields.{WireField}
@@ -9,9 +9,9 @@ use Rattle.feed_values.specs.Schema as schema
 use Rattle.feed_values.specs.Schema.{Schema, Presence, Optional, Needed, Bits32}
 use Rattle.feed_values.specs.Messages.{translation, translated_string, trip_descriptor, vehicle_descriptor, stop_time_update, time_range, entity_selector, alert, position, vehicle_position, trip_update, entity}
 use Rattle.feed_values.specs.Meaning.{fields, given, in_slot, payload_in, scalar_in, option_case}
-use Rattle.feed_values.specs.Accepted.{absent, required_slot, missing, missing_message, first_missing}
+use Rattle.feed_values.specs.Accepted.{absent, missing, missing_message, first_missing}
 use Rattle.feed_codec.specs.declared.paths.Sought.TheVariants as sought
-use Rattle.feed_codec.specs.Paths.{deep, holds, has_payload, is_sought}
+use Rattle.feed_codec.specs.Paths.{holds, has_payload, is_sought}
 
 -- ---- schemas without a required slot inside
 

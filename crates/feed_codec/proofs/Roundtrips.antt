@@ -1,26 +1,29 @@
 -- The laws that join encoding and decoding.
-use Rattle.std.proofs.Common.{◌≡◌, ℕ, ◌^◌, ◌<◌, ◌≤◌, List, [], ◌∷◌, length, Some, Result, Ok, Err, refl, sym, ap, ◌∙◌, arith, rules}
+use Rattle.std.proofs.Common.{◌≡◌, ℕ, ◌^◌, ◌<◌, ◌≤◌, List, [], ◌∷◌, length, Some, Result, Ok, Err, refl, sym, ap, subst, ◌∙◌, arith, rules}
 use Rattle.std.specs.Prelude.{IfOk, MatchResult}
 use Rattle.std.specs.List.{flat_map}
+use Rattle.std.specs.declared.alloc.AllocError.{AllocError}
 use Rattle.rt_wire.specs.Fields.{WireField, IsBytes}
 use Rattle.feed_values.specs.declared.required.Required.TheVariants as required
 use Rattle.feed_values.specs.declared.feed_message.FeedMessage.{FeedMessage}
+use Rattle.feed_values.specs.declared.entity.Entity.{Entity}
 use Rattle.feed_values.specs.Schema.{Schema, Value, Needed, held, blank, Rises}
-use Rattle.feed_values.specs.Messages.{feed_message, feed_header}
+use Rattle.feed_values.specs.Messages.{feed_message, feed_header, entity}
 use Rattle.feed_values.specs.Meaning.{fields, in_slot, payload_in, given, joined, slots_of, meaning}
 use Rattle.feed_values.specs.Accepted.{header_fields, is_one, is_differential, snapshot_limit}
 use Rattle.feed_values.specs.Snapshot.{snapshot_value, incrementality_of}
-use Rattle.feed_values.specs.Views.{feed_message_value}
+use Rattle.feed_values.specs.Views.{feed_message_value, entity_value}
 use Rattle.feed_values.specs.Canonical.{canonical}
 use Rattle.feed_values.specs.WellFormed.{IsWellFormed, IsWellFormedFeed}
 use Rattle.feed_codec.specs.declared.codec_fault.CodecFault.{CodecFault}
 use Rattle.feed_codec.specs.declared.codec_fault.CodecFault.TheVariants.{Memory, Refused}
-use Rattle.feed_codec.specs.Refusal.{refusal}
+use Rattle.feed_codec.specs.Refusal.{refusal, entity_fault}
 use Rattle.feed_codec.specs.Decoded.{Decodes}
 use Rattle.feed_codec.specs.Encoding.{TagsFit}
 use Rattle.feed_codec.specs.EncodingLaws.{Means, CanonicalMeansValue, AcceptedIsWellFormed, EncodedDecodes, CanonicalDecides, ValuesAreFaithful}
 use Rattle.feed_codec.proofs.ValidTexts.{nothing}
-use Rattle.feed_codec.proofs.SnapshotFaults.{accepted_found, accepted_is}
+use Rattle.feed_codec.proofs.SnapshotFaults.{accepted_found, accepted_is, bytes_agree}
+use Rattle.feed_codec.proofs.Snapshots.{complete_entity}
 use Rattle.feed_codec.proofs.CanonicalFields.{canonical_short}
 use Rattle.feed_codec.proofs.Returns.{returns_of}
 use Rattle.feed_codec.proofs.CanonicalBytes.{canonical_bytes, canonical_message}
@@ -82,6 +85,18 @@ decoded_value bytes (Err e) ok d = tt
 
 pub decoded_fits : (bytes : List ℕ) (message : FeedMessage) → IsBytes bytes → refusal bytes ≡ nothing → feed_message_value message ≡ meaning feed_message (fields bytes) → IsWellFormedFeed (feed_message_value message)
 decoded_fits bytes message ok e is = rw is (accepted_value bytes ok e)
+
+-- ---- one entity
+
+entity_rises : Rises 0 entity
+entity_rises = search rules
+
+entity_defaults : DefaultsFit entity
+entity_defaults = search rules
+
+pub entity_fits : (p : List ℕ) (answer : Result Entity AllocError) → IsBytes p → entity_fault p ≡ nothing → IfOk answer (λ found. entity_value found ≡ meaning entity (fields p)) → IfOk answer (λ found. IsWellFormed entity (entity_value found))
+entity_fits p (Err a) ok e is = tt
+entity_fits p (Ok found) ok e is = subst (λ (v : Value entity). IsWellFormed entity v) (sym is) (meaning_fits entity p entity_rises entity_defaults ok ((bytes_agree entity).none p ok (complete_entity p e).0))
 
 pub accepted_is_well_formed : AcceptedIsWellFormed
 accepted_is_well_formed = record { value = accepted_value; short = accepted_short; decoded = decoded_value }

@@ -1,28 +1,25 @@
 -- The first fault of a snapshot is the one that the relation says, and a snapshot without one is accepted.
-use Rattle.std.proofs.Common.{◌≡◌, ℕ, ◌<◌, ◌≤◌, Bool, true, false, cond, eqb, ltb, List, [], ◌∷◌, ◌++◌, length, map, Option, Some, None, Result, Ok, Err, refl, sym, ap, subst, ◌∙◌, arith, inl, inr, ◌⊎◌}
-use Rattle.std.specs.Prelude.{IfSome, ◌↔◌}
+use Rattle.std.proofs.Common.{◌≡◌, ℕ, ◌≤◌, Bool, true, false, cond, eqb, ltb, List, [], ◌∷◌, length, Option, Some, None, refl, sym, ap, ◌∙◌, inl, inr, ◌⊎◌}
+use Rattle.std.specs.Prelude.{IfSome}
 use Rattle.std.specs.Bool.{MatchBool}
-use Rattle.std.specs.Option.{option_map, option_or}
+use Rattle.std.specs.Option.{option_or}
 use Rattle.std.specs.List.{AllByRecursion}
 use Rattle.std.proofs.lemmas.Bool.{lt-ltb, le-ltb, ltb-true, ltb-false}
-use Rattle.rt_wire.specs.declared.fault.WireFault.{WireFault}
-use Rattle.rt_wire.specs.Fields.{IsBytes, WireField, Joins, Spells}
-use Rattle.rt_wire.specs.Placed.{PlacedField, placed_fields}
-use Rattle.rt_wire.specs.Laws.{HandedOut}
-use Rattle.rt_wire.proofs.Whole.{spelled_is_read}
+use Rattle.rt_wire.specs.Fields.{IsBytes, WireField}
+use Rattle.rt_wire.specs.Placed.{placed_fields}
 use Rattle.feed_values.specs.declared.required.Required.{Required}
 use Rattle.feed_values.specs.declared.required.Required.TheVariants as required
 use Rattle.feed_values.proofs.SnapshotFields.{fields_are}
 use Rattle.feed_values.specs.Schema.{Schema, Needed}
 use Rattle.feed_values.specs.Messages.{feed_message, feed_header, entity}
-use Rattle.feed_values.specs.Meaning.{fields, whole_fields, given, in_slot, payload_in, option_case}
+use Rattle.feed_values.specs.Meaning.{fields, given, in_slot, payload_in, option_case}
 use Rattle.feed_values.specs.Accepted.{IsWhole, IsMessage, IsAccepted, missing, missing_message, first_missing, header_fields, is_differential, snapshot_limit}
 use Rattle.feed_codec.specs.declared.refusal.Reason.TheVariants.{MissingField, Differential, TooLarge}
 use Rattle.feed_codec.specs.declared.refusal.Refusal.{Refusal}
-use Rattle.feed_codec.specs.Refusal.{refused, shifted, first_in, in_payload, first_fault, entity_fault, part_fault, missing_at, end_fault, refusal}
-use Rattle.feed_codec.specs.FirstFault.{FirstIn, FirstFault, EntityWrong, IsEntity, PartWhole, PartWrong, EndWrong, lacks, differs, IsRefused, too_large, in_field, at_end, RefusalIsFirst}
+use Rattle.feed_codec.specs.Refusal.{refused, first_in, in_payload, first_fault, entity_fault, part_fault, missing_at, end_fault, refusal}
+use Rattle.feed_codec.specs.FirstFault.{FirstFault, EntityWrong, IsEntity, PartWhole, PartWrong, EndWrong, lacks, differs, IsRefused, too_large, in_field, at_end, RefusalIsFirst}
 use Rattle.feed_codec.proofs.ValidTexts.{nothing, neither}
-use Rattle.feed_codec.proofs.Firsts.{Agrees, Faultless, found_first, first_found, none_faultless, faultless_none, either}
+use Rattle.feed_codec.proofs.Firsts.{Agrees, found_first, first_found, none_faultless, faultless_none, either}
 use Rattle.feed_codec.proofs.FirstFaults.{AgreesHere, slot_agrees, end_agrees, message_agrees, agrees_of}
 
 -- ---- the payloads of a snapshot

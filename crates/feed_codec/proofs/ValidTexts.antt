@@ -1,5 +1,5 @@
 -- Where nothing is wrong, every text is UTF-8.
-use Rattle.std.proofs.Common.{◌≡◌, ℕ, ◌+◌, ◌≤◌, zero, suc, take, Bool, true, false, cond, eqb, List, [], ◌∷◌, length, Option, Some, None, Result, Ok, Err, refl, sym, ap, ◌∙◌, arith}
+use Rattle.std.proofs.Common.{◌≡◌, ℕ, ◌≤◌, zero, suc, take, Bool, true, false, cond, eqb, List, [], ◌∷◌, length, Option, Some, None, Result, Ok, Err, refl, arith}
 use Rattle.std.specs.Prelude.{IfSome}
 use Rattle.std.specs.Bool.{MatchBool}
 use Rattle.std.specs.Option.{option_map, option_or}
@@ -16,9 +16,9 @@ use Rattle.rt_wire.specs.Placed.{PlacedField, placed_fields}
 use Rattle.feed_codec.specs.declared.refusal.Refusal.{Refusal}
 use Rattle.feed_values.specs.Schema as schema
 use Rattle.feed_values.specs.Schema.{Schema}
-use Rattle.feed_values.specs.Meaning.{fields, whole_fields, payload_in, option_case}
+use Rattle.feed_values.specs.Meaning.{fields, whole_fields, payload_in}
 use Rattle.feed_codec.specs.Merging.{TextsAreUtf8}
-use Rattle.feed_codec.specs.Refusal.{refused, shifted, own_fault, text_fault, first_in, payload_fault, in_payload, first_fault}
+use Rattle.feed_codec.specs.Refusal.{shifted, text_fault, first_in, payload_fault, in_payload, first_fault}
 
 abbrev pub nothing : Option Refusal
 nothing = None

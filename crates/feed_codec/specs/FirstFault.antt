@@ -1,6 +1,6 @@
 -- The first fault as a relation: a front of whole fields, and behind it what goes wrong first.
 -- (Protocol Buffers, Encoding, "Message Structure"; the order of faults is this profile's.)
-use Rattle.std.specs.Prelude.{◌≡◌, ◌↔◌, ℕ, ◌-◌, ◌<◌, ◌≤◌, true, List, ◌++◌, length, take, Option, Some, None, IfSome, ◌==◌, ◌⊎◌}
+use Rattle.std.specs.Prelude.{◌≡◌, ◌↔◌, ℕ, ◌-◌, ◌<◌, ◌≤◌, true, List, ◌++◌, length, take, Some, None, IfSome, ◌==◌, ◌⊎◌}
 use Rattle.std.specs.Bool.{MatchBool}
 use Rattle.std.specs.List.{AllByRecursion}
 use Rattle.std.specs.Str.{IsUtf8}

@@ -7,7 +7,7 @@ use Rattle.rt_wire.specs.Placed.{placed_fields}
 use Rattle.feed_values.specs.declared.required.Required.TheVariants as required
 use Rattle.feed_values.specs.Messages.{feed_header}
 use Rattle.feed_values.specs.Meaning.{fields, given, in_slot, payload_in}
-use Rattle.feed_values.specs.Accepted.{header_fields, snapshot_limit}
+use Rattle.feed_values.specs.Accepted.{snapshot_limit}
 use Rattle.feed_codec.specs.declared.refusal.Reason.TheVariants.{MissingField}
 use Rattle.feed_codec.specs.declared.refusal.Refusal.{Refusal}
 use Rattle.feed_codec.specs.Refusal.{refused, first_in, in_payload, first_fault, part_fault, header_fault, refusal}

@@ -1,6 +1,6 @@
 -- The first fault of a snapshot: a place in its bytes, and what is wrong there.
 -- (Protocol Buffers, Encoding, "Message Structure"; the order of faults and their places are this profile's.)
-use Rattle.std.specs.Prelude.{◌≡◌, ℕ, ◌+◌, List, [], ◌∷◌, Bool, true, false, length, Option, Some, None, Result, Ok, Err, nat_lt, ◌==◌, if◌then◌else◌}
+use Rattle.std.specs.Prelude.{◌≡◌, ℕ, ◌+◌, List, [], ◌∷◌, length, Option, Some, None, Result, Ok, Err, nat_lt, ◌==◌, if◌then◌else◌}
 use Rattle.std.specs.Option.{option_map, option_or}
 use Rattle.std.specs.Str.Lossy.{utf8_valid_len}
 use Rattle.rt_wire.specs.declared.fault.WireReason.{WireReason}

@@ -8,7 +8,9 @@ use std::alloc::AllocError;
 /// Why a snapshot isn't decoded: it is refused, or no memory is left.
 #[derive(Clone, Copy, Debug, PartialEq, Eq)]
 pub enum CodecFault {
+    /// The first fault of the bytes, which more memory wouldn't cure.
     Refused(Refusal),
+    /// No memory was left for the value of an accepted snapshot.
     Memory,
 }
 

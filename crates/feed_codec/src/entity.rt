@@ -1,9 +1,10 @@
-//! One entity, or one part of a header, by itself.
+//! One entity, or one payload of the header, by itself.
 ghost use Rattle.std.specs.Prelude.{◌≡◌, ◌+◌, ◌≤◌, ◌<◌, ◌^◌, length, IfErr, IfOk};
 ghost use Rattle.std.specs.Option.{option_map};
 ghost use Rattle.feed_values.specs.Messages.{feed_header, entity};
 ghost use Rattle.feed_values.specs.Meaning.{fields, meaning};
 ghost use Rattle.feed_values.specs.Views.{feed_header_value, entity_value};
+ghost use Rattle.feed_values.specs.WellFormed.{IsWellFormed};
 ghost use Rattle.feed_codec.specs.Parts.{IsJoined};
 ghost use Rattle.feed_codec.specs.Refusal.{Answers, first_fault, entity_fault, shifted};
 
@@ -47,9 +48,12 @@ pub fn check_entity_payload(bytes: &[u8]) -> Result<(), Refusal>
     }
 }
 
-/// The first fault of the payload of an entity that begins at place `base` of its snapshot.
+/// The first fault of the payload of an entity, as a place of the snapshot, in which the payload begins at byte `base`.
 ///
-/// A required slot is missed at the entity's end, after all other faults. It takes no memory.
+/// Inside the payload fields are taken left to right, and for each its own fault first. A required slot that is missing
+/// comes after all other faults, at the payload's end: the first in the order id, trip, latitude, longitude, text, after
+/// parts of one message are joined. It takes no memory. (Protocol Buffers, Encoding; GTFS Realtime Reference 2.0,
+/// "FeedEntity"; the order of faults is this profile's.)
 pub fn check_entity(bytes: &[u8], base: usize) -> Result<(), Refusal>
     requires { base + length bytes.now < 2 ^ 64 }
     ensures { Answers result (option_map (shifted base) (entity_fault bytes.now)) }
@@ -57,9 +61,11 @@ pub fn check_entity(bytes: &[u8], base: usize) -> Result<(), Refusal>
     moved(check_entity_payload(bytes), base)
 }
 
-/// The first fault of one payload of a header that begins at place `base` of its snapshot.
+/// The first fault of one payload of the header, as a place of the snapshot, in which the payload begins at byte `base`.
 ///
-/// What a header has to have is asked at the snapshot's end, by `check_header`. It takes no memory.
+/// A header may come in several payloads. What they have to hold together is asked at the snapshot's end, by
+/// `check_header`, so this never answers `MissingField` or `Differential`. It takes no memory.
+/// (Protocol Buffers, Encoding, "Last One Wins"; GTFS Realtime Reference 2.0, "FeedHeader".)
 pub fn check_header_part(bytes: &[u8], base: usize) -> Result<(), Refusal>
     requires { base + length bytes.now < 2 ^ 64 }
     ensures { Answers result (option_map (shifted base) (first_fault feed_header bytes.now)) }
@@ -67,7 +73,9 @@ pub fn check_header_part(bytes: &[u8], base: usize) -> Result<(), Refusal>
     moved(check_message::<FeedHeader>(bytes), base)
 }
 
-/// The entity that a payload means. It takes one step.
+/// The entity that a payload means, which `check_entity` has to pass.
+///
+/// It counts one step, also where memory is wanting, which is its one error. (GTFS Realtime Reference 2.0, "FeedEntity".)
 #[tactic(auto, using(crate::proofs::Snapshots::fine_entity))]
 pub fn decode_entity<L: Ledger>(
     alloc: Global,
@@ -76,16 +84,22 @@ pub fn decode_entity<L: Ledger>(
 ) -> Result<Entity, AllocError>
     requires { entity_fault bytes.now ≡ None }
     ensures value { IfOk result (λ found. entity_value found ≡ meaning entity (fields bytes.now)) }
+    ensures well_formed { IfOk result (λ found. IsWellFormed entity (entity_value found)) }
     ensures step { steps.new ≡ steps.old + 1 }
 {
     steps.tick();
     message_of(alloc, bytes)
 }
 
-/// The header that its payloads mean together. `parts` joins payloads that passed `check_header_part`.
+/// The header that its payloads mean together. `parts` is these payloads, joined, each of which `check_header_part` has to
+/// pass by itself.
+///
+/// Where `check_header` doesn't pass, a version that is missing is an empty text. The one error is want of memory.
+/// (GTFS Realtime Reference 2.0, "FeedHeader".)
 pub fn decode_header(alloc: Global, parts: &[u8]) -> Result<FeedHeader, AllocError>
     requires { IsJoined parts.now }
-    ensures { IfOk result (λ header. feed_header_value header ≡ meaning feed_header (fields parts.now)) }
+    ensures value { IfOk result (λ header. feed_header_value header ≡ meaning feed_header (fields parts.now)) }
+    ensures well_formed { IfOk result (λ header. IsWellFormed feed_header (feed_header_value header)) }
 {
     message_of(alloc, parts)
 }

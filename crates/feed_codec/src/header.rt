@@ -12,12 +12,14 @@ use crate::refusal::{Reason, Refusal, Required};
 use crate::taking::take_enum;
 use rt_wire::{Fields, RawField, RawValue};
 
-/// The number of DIFFERENTIAL.
+/// The number of DIFFERENTIAL. (GTFS Realtime Reference 2.0, "Incrementality".)
 pub const DIFFERENTIAL: u32 = 1;
 
-/// What is wrong with a header at the snapshot's end: its version is missing, or it is DIFFERENTIAL.
+/// What is wrong with a header at the snapshot's end: `MissingField(Version)`, or else `Differential`.
 ///
-/// `parts` joins the payloads of the header, and `end` is the place that the answer names.
+/// `parts` is the payloads of the header, joined, and `end` the length of the snapshot, which is the place of both faults.
+/// A snapshot without any payload of the header is refused with `MissingField(Header)` before this is asked. It takes no
+/// memory. (GTFS Realtime Reference 2.0, "FeedHeader"; that DIFFERENTIAL isn't taken is this profile's.)
 #[tactic(auto, using(crate::proofs::Headers::header_missing))]
 pub fn check_header(parts: &[u8], end: usize) -> Result<(), Refusal>
     ensures { Answers result (header_fault end (fields parts.now)) }

@@ -1,11 +1,13 @@
 //! A whole snapshot: checked without memory, then decoded.
-ghost use Rattle.std.specs.Prelude.{◌≡◌, ◌≤◌, length, IfErr};
+ghost use Rattle.std.specs.Prelude.{◌≡◌, ◌≤◌, length, IfOk, IfErr};
 ghost use Rattle.rt_wire.specs.Placed.{placed_field, placed_fields, PayloadFits};
 ghost use Rattle.feed_values.specs.Messages.{feed_message};
 ghost use Rattle.feed_values.specs.Meaning.{fields, meaning};
 ghost use Rattle.feed_values.specs.Views.{feed_message_value};
+ghost use Rattle.feed_values.specs.WellFormed.{IsWellFormedFeed};
 ghost use Rattle.feed_codec.specs.Refusal.{Answers, first_in, in_payload, part_fault, end_fault, refusal};
 ghost use Rattle.feed_codec.specs.Decoded.{Decodes};
+ghost use Rattle.feed_codec.specs.declared.codec_fault.CodecFault.TheVariants.{Memory};
 
 use crate::checking::{check_message, reason_of};
 use crate::codec_fault::CodecFault;
@@ -18,7 +20,7 @@ use feed_values::{FeedHeader, FeedMessage};
 use rt_wire::{Fields, RawField, RawValue};
 use std::alloc::Global;
 
-/// The most bytes that a snapshot has.
+/// The most bytes that a snapshot has. (This profile.)
 pub const SNAPSHOT_LIMIT: usize = 67_108_864;
 
 /// What is wrong inside a field of a snapshot.
@@ -94,7 +96,10 @@ fn check_end(bytes: &[u8]) -> Result<(), Refusal>
 
 /// The first fault of a snapshot, if it has one. It takes no memory.
 ///
-/// More than 67,108,864 bytes go before everything else that the bytes hold.
+/// More than 67,108,864 bytes go before everything else that the bytes hold. Otherwise fields are taken left to right: for
+/// each its own fault, then those inside its payload, where a slot that an entity lacks comes at the entity's end. At the
+/// snapshot's end come a missing header, a missing version, and DIFFERENTIAL, in this order.
+/// (Protocol Buffers, Encoding; GTFS Realtime Reference 2.0, "Element Index"; the order of faults is this profile's.)
 #[tactic(auto, unfolding(crate::specs::Refusal::refusal))]
 pub fn check_snapshot(bytes: &[u8]) -> Result<(), Refusal>
     ensures { Answers result (refusal bytes.now) }
@@ -109,12 +114,20 @@ pub fn check_snapshot(bytes: &[u8]) -> Result<(), Refusal>
     check_end(bytes)
 }
 
-/// What the bytes of a snapshot mean, or their first fault.
+/// What the bytes of a snapshot mean, or their first fault, which is that of `check_snapshot`.
 ///
-/// Places count bytes of `bytes` from 0. (Protocol Buffers, Encoding; GTFS Realtime Reference 2.0.)
+/// Bytes are refused whatever memory there is: `Memory` is answered only where they are accepted. What is given is well
+/// formed, so that `encode` takes it.
+///
+/// A number, text or enum that comes more than once holds the last, a message that comes in parts all of them together, and
+/// a repeated field each in order. Bits past a number's width are dropped. An enum number that the reference doesn't name,
+/// and each field of no slot, is kept as unknown.
+/// (Protocol Buffers, Encoding, "Last One Wins", "Submessages"; GTFS Realtime Reference 2.0, "Elements".)
 #[tactic(auto, using(crate::proofs::Snapshots::fine_snapshot))]
 pub fn decode(alloc: Global, bytes: &[u8]) -> Result<FeedMessage, CodecFault>
-    ensures { Decodes feed_message_value result (refusal bytes.now) (meaning feed_message (fields bytes.now)) }
+    ensures value { Decodes feed_message_value result (refusal bytes.now) (meaning feed_message (fields bytes.now)) }
+    ensures well_formed { IfOk result (λ message. IsWellFormedFeed (feed_message_value message)) }
+    ensures memory { result ≡ Err Memory → refusal bytes.now ≡ None }
 {
     check_snapshot(bytes)?;
     Ok(message_of(alloc, bytes)?)

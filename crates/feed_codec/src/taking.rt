@@ -1,3 +1,6 @@
+//! Numbers and texts into their slots. Each call says whether the value was of the slot's wire type, and for an enum also
+//! one of its numbers; where it wasn't, the slot stays as it was.
+//! (Protocol Buffers, Encoding, "Last One Wins"; Language Guide proto2, "Scalar Value Types".)
 ghost use Rattle.std.specs.Prelude.{◌≡◌, ◌%◌, ◌^◌, IfOk, IfSome, List, ℕ, pos};
 ghost use Rattle.std.specs.Option.{option_map};
 ghost use Rattle.feed_values.specs.Schema as schema;

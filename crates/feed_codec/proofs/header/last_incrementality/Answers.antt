@@ -1,8 +1,8 @@
-use Rattle.std.proofs.Common.{◌≡◌, List, ◌∷◌, Result, Ok, Err, ap, ◌∙◌}
-use Rattle.rt_wire.specs.Placed.{Remaining, placed_field}
+use Rattle.std.proofs.Common.{ap, ◌∙◌}
+use Rattle.rt_wire.specs.Placed.{Remaining}
 use Rattle.feed_values.specs.Meaning.{fields, whole_fields, last_of}
-use Rattle.feed_values.specs.Accepted.{incrementalities, header_fields}
-use Rattle.feed_codec.proofs.Headers.{starts, goes_on, header_pieces}
+use Rattle.feed_values.specs.Accepted.{incrementalities}
+use Rattle.feed_codec.proofs.Headers.{starts}
 use Rattle.feed_codec.proofs.header.last_incrementality.Goals as goal
 
 pub loop-field-init : goal.loop-field-init

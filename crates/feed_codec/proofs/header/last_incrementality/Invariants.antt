@@ -1,7 +1,7 @@
 use Rattle.std.proofs.Common.{◌≡◌, length}
 use Rattle.std.specs.Option.{option_or}
 use Rattle.feed_values.specs.Meaning.{fields, whole_fields, last_of}
-use Rattle.feed_values.specs.Accepted.{incrementalities, header_fields}
+use Rattle.feed_values.specs.Accepted.{incrementalities}
 use Rattle.feed_values.specs.Views.{natural}
 use Rattle.feed_codec.proofs.header.last_incrementality.Given as goal
 

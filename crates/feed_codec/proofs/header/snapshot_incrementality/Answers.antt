@@ -1,4 +1,4 @@
-use Rattle.std.proofs.Common.{◌≡◌, List, ◌∷◌, Result, Ok, Err, ap, ◌∙◌}
+use Rattle.std.proofs.Common.{◌≡◌, ◌∷◌, Ok, ap, ◌∙◌}
 use Rattle.rt_wire.specs.Placed.{Remaining, placed_field}
 use Rattle.feed_values.specs.Meaning.{fields, whole_fields, last_of}
 use Rattle.feed_values.specs.Accepted.{incrementalities, header_fields}

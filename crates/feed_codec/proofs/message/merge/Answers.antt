@@ -1,7 +1,6 @@
-use Rattle.std.proofs.Common.{◌≡◌, [], ◌∷◌, List, Result, Ok, Err, sym, ap, subst, ◌∙◌}
+use Rattle.std.proofs.Common.{◌≡◌, [], ◌∷◌, Ok, Err, sym, ap, ◌∙◌}
 use Rattle.std.specs.List.{AllByRecursion}
-use Rattle.rt_wire.specs.declared.fault.WireFault.{WireFault}
-use Rattle.rt_wire.specs.Placed.{PlacedField, Remaining, placed_field, placed_fields}
+use Rattle.rt_wire.specs.Placed.{Remaining, placed_field}
 use Rattle.feed_values.specs.Meaning.{fields, whole_fields}
 use Rattle.feed_codec.specs.Merging.{with_fields, TextsAreUtf8}
 use Rattle.feed_codec.proofs.Merges.{with_fields-more, with_fields-none}

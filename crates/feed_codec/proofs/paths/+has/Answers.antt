@@ -1,8 +1,8 @@
-use Rattle.std.proofs.Common.{◌≡◌, [], ◌∷◌, true, false, ◌||◌, List, Result, Ok, Err, sym, ap, ◌∙◌}
+use Rattle.std.proofs.Common.{◌≡◌, ◌∷◌, Ok, Err, sym, ap, ◌∙◌}
 use Rattle.rt_wire.specs.Placed.{Remaining, placed_field, value_of}
 use Rattle.feed_values.specs.Meaning.{fields, whole_fields}
 use Rattle.feed_codec.specs.Paths.{holds, is_sought}
-use Rattle.feed_codec.proofs.Deep.{holds_cons, holds_none, found_here, found_later, other_number, no_payload, not_len}
+use Rattle.feed_codec.proofs.Deep.{holds_none, found_here, found_later, other_number, no_payload, not_len}
 use Rattle.feed_codec.proofs.paths.+has.Goals as goal
 
 pub has-loop-field-init : goal.has-loop-field-init

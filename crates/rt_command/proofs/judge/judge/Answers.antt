@@ -6,4 +6,4 @@ use Rattle.rt_command.proofs.judge.judge.Goals as goal
 pub returns-in-Ok : goal.returns-in-Ok
 returns-in-Ok c =
     subst (λ report. IfOk c.accepted.result (IsJudged report))
-    (accepted_judged c.args.moment c.args.bytes.now _ c.in-Ok.message c.in-Ok.ensures.0 c.in-Ok.ensures.1) c.accepted.ensures
+    (accepted_judged c.args.moment c.args.bytes.now _ c.in-Ok.message c.in-Ok.ensures.value.0 c.in-Ok.ensures.value.1) c.accepted.ensures
