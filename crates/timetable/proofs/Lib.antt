@@ -9,6 +9,7 @@ pub mod DayLemmas
 pub mod LawLemmas
 pub mod KeyLemmas
 pub mod SequenceLemmas
+pub mod RowLemmas
 pub mod StopLemmas
 pub mod VisitLemmas
 pub mod FolderLemmas

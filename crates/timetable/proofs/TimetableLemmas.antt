@@ -1,5 +1,5 @@
 -- Timetables that were read.
-use Rattle.std.proofs.Common.{◌≡◌, ◌<◌, ◌⊎◌, inl, inr, ℕ, List, [], ◌∷◌, Bor, Option, Some, None, Result, Ok, IfSome, length, option_map, unwrap_or, refl, sym, ap, ◌∙◌, arith}
+use Rattle.std.proofs.Common.{◌≡◌, ◌<◌, inl, inr, ℕ, List, [], ◌∷◌, Bor, Option, Some, None, Ok, IfSome, length, option_map, unwrap_or, refl, sym, ap, ◌∙◌}
 use Rattle.std.specs.FinMap.{empty, entries, get}
 use Rattle.std.specs.Option.{option_and_then, option_copied}
 use Rattle.rt_outside.specs.Store.{Contents}
@@ -11,7 +11,7 @@ use Rattle.timetable.specs.Lookups.{IsServiceOf, trip_row}
 use Rattle.timetable.specs.Numbers.{HasNumber}
 use Rattle.timetable.specs.Rows.{Record, records_of}
 use Rattle.timetable.specs.Stops.{HaveStops, HoldsVisits, StopTable, visit_key, visits}
-use Rattle.timetable.specs.Tables.{absent_table, table_in, table_of_records, without_mark}
+use Rattle.timetable.specs.Tables.{table_of_records, without_mark}
 use Rattle.timetable.specs.Times.{BySequence, keyed}
 use Rattle.timetable.specs.Timetables.{KnowsTwice, Loaded, loaded_from, tables_from, tables_of, trip_times}
 use Rattle.timetable.specs.declared.items.Trip.{Trip}

@@ -4,21 +4,20 @@ use Rattle.std.proofs.lemmas.Cmp.{nat_cmp_total}
 use Rattle.std.proofs.lemmas.List.Folds.{find-append}
 use Rattle.std.specs.Cmp.{unsigned_tied}
 use Rattle.std.specs.FinMap.{empty, get, get-empty, get-insert, insert, nat_cmp-IsAntisymmetric}
-use Rattle.std.specs.List.{list_any, position_or_len}
+use Rattle.std.specs.List.{list_any}
 use Rattle.std.specs.Option.{option_and_then, option_or}
 use Rattle.std.specs.Ordering.{eq_by_cmp}
 use Rattle.std.specs.Str.{bytes_eq}
 use Rattle.timetable.specs.Formats.{by_id}
-use Rattle.timetable.specs.Items.{visit_row}
-use Rattle.timetable.specs.Laws.{HoldsEach, Keys, row_keys}
-use Rattle.timetable.specs.Maps.{ByText, Text, put_under, text_cmp}
-use Rattle.timetable.specs.Stops.{HaveStops, HoldsVisits, StopTable, ids_with, number_in, stop_time_at, stop_time_of, visit_added, visit_key, visit_of, visits}
+use Rattle.timetable.specs.Laws.{Keys, row_keys}
+use Rattle.timetable.specs.Maps.{ByText, Text, text_cmp}
+use Rattle.timetable.specs.Stops.{HaveStops, HoldsVisits, StopTable, ids_with, number_in, stop_time_at, stop_time_of, visit_key, visit_of, visits}
 use Rattle.timetable.specs.Times.{BySequence, sequences}
 use Rattle.timetable.specs.declared.fault.CellFault.TheVariants.{NotText}
 use Rattle.timetable.specs.declared.items.Visit.{Visit}
 use Rattle.timetable.specs.declared.row.Row.{Row}
 use Rattle.timetable.specs.declared.stop_time.StopTime.{StopTime}
-use Rattle.timetable.proofs.KeyLemmas.{Holds, KeepsItems, KeepsKeys, both_true, find-alike, keyed_by_id, one_text, or_none}
+use Rattle.timetable.proofs.KeyLemmas.{KeepsItems, KeepsKeys, find-alike, keyed_by_id, one_text, or_none}
 use Rattle.timetable.proofs.KeyedLemmas.{one_key}
 use Rattle.timetable.proofs.LawLemmas.{Adds, Keeps}
 
