@@ -62,7 +62,7 @@ pub struct Timetable {
 }
 
 /// The tables of the files in the order in which they are read.
-type Loaded = (
+pub(crate) type Loaded = (
     Grouped<Only<Agency>>,
     (
         Grouped<Only<Stop>>,
