@@ -15,4 +15,5 @@ pub mod VisitLemmas
 pub mod FolderLemmas
 pub mod NumberLemmas
 pub mod TwiceLemmas
+pub mod ReturnLemmas
 pub mod TimetableLemmas

@@ -49,7 +49,7 @@ inserted k t es fs writes = fin.same_map nat_cmp_total nat_cmp-IsAntisymmetric _
     ∙ ap (cond (eq_by_cmp nat_cmp q k) (Some t)) (sym (fin.get-from_entries nat_cmp_total es q))
     ∙ sym (fin.get-insert nat_cmp_total (by_sequence es) k t q))
 
-find-lookup : (es : Entries) (q : ℕ) → find nat_cmp q es ≡ lookup (is_at (nat_cmp q)) es
+pub find-lookup : (es : Entries) (q : ℕ) → find nat_cmp q es ≡ lookup (is_at (nat_cmp q)) es
 find-lookup [] q = refl
 find-lookup (e ∷ es) q = ap (cond (eq_by_cmp nat_cmp q e.0) (Some e.1)) (find-lookup es q)
 

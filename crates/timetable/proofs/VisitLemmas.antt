@@ -1,10 +1,11 @@
 -- Stop times hold the rows of stop_times.txt.
 use Rattle.std.proofs.Common.{◌≡◌, ◌<◌, ◌≤◌, ◌+◌, ◌==◌, ◌&&◌, ◌++◌, ℕ, zero, suc, List, [], ◌∷◌, length, slice_get, unwrap_or, Bool, true, false, cond, Option, Some, None, Err, option_map, find, nat_cmp, refl, sym, ap, ◌∙◌, subst, arith, length-append}
-use Rattle.std.proofs.lemmas.Cmp.{nat_cmp_total}
+use Rattle.std.proofs.lemmas.Cmp.{nat_cmp_total, nat_list_eq_equiv}
+use Rattle.std.proofs.lemmas.Map.Keys.{IsDistinct-push}
 use Rattle.std.proofs.lemmas.List.Folds.{find-append}
 use Rattle.std.specs.Cmp.{unsigned_tied}
 use Rattle.std.specs.FinMap.{empty, get, get-empty, get-insert, insert, nat_cmp-IsAntisymmetric}
-use Rattle.std.specs.List.{list_any}
+use Rattle.std.specs.List.{IsDistinct, list_any}
 use Rattle.std.specs.Option.{option_and_then, option_or}
 use Rattle.std.specs.Ordering.{eq_by_cmp}
 use Rattle.std.specs.Str.{bytes_eq}
@@ -78,6 +79,18 @@ numbers ids id = by (list_any (bytes_eq id) ids) refl
           kept = λ n h. rw is (slice_get-front ids (id ∷ []) n h);
         }
 
+-- no id has two numbers
+no_ids : IsDistinct bytes_eq []
+unfolding IsDistinct
+no_ids = tt
+
+distinct_with : (ids : List Text) (id : Text) → IsDistinct bytes_eq ids → IsDistinct bytes_eq (ids_with ids id)
+distinct_with ids id distinct = by (list_any (bytes_eq id) ids) refl
+  where
+    by : (b : Bool) → list_any (bytes_eq id) ids ≡ b → IsDistinct bytes_eq (cond b ids (ids ++ id ∷ []))
+    by true is = distinct
+    by false is = IsDistinct-push nat_list_eq_equiv ids id distinct is
+
 -- ---- stop times by sequence
 
 -- a trip has one stop time of each sequence
@@ -127,6 +140,7 @@ holds_visit table done row holds new =
       says = record {
         held = λ other. held other put.more put.held (visit_key.same other row) refl;
         stops = λ id sequence time at. stops put.more put.held id sequence time at;
+        distinct = distinct_with table.stops row.item.stop holds.distinct;
       };
     }
   where
@@ -176,6 +190,7 @@ pub keeps_visits : Keeps visits visit_key.same HoldsVisits
 keeps_visits = record {
   empty = record {
     held = λ row. ap (λ o. option_map (visit_of []) (option_and_then (λ trip. get trip row.item.sequence) o)) (get-empty text_cmp row.id);
+    distinct = no_ids;
     stops = λ id sequence time at. let none = sym (ap (option_and_then (λ trip. get trip sequence)) (get-empty text_cmp id)) ∙ at in cc none;
   };
   fresh = holds_visit;

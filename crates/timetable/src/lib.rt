@@ -43,7 +43,7 @@ pub use column::Column;
 pub use fault::LoadFault;
 pub use file::File;
 pub use items::{Frequency, ServiceRow};
-pub use laws::tables_follow_their_rows;
+pub use laws::{tables_follow_their_rows, visits_twice_follows_its_stops};
 pub use rows::Rows;
 pub use stop_time::StopTime;
 pub use timetable::{ServiceNo, Timetable, TripNo};
