@@ -2,7 +2,7 @@
 use Rattle.std.proofs.Common.{◌≡◌, ◌<◌, get_or, arith}
 use Rattle.timetable.specs.Columns.{number_of}
 use Rattle.timetable.specs.declared.column.Column.{Column}
-use Rattle.timetable.specs.declared.column.Column.TheVariants.{AgencyId, StopId, LocationType, RouteId, ServiceId, TripId, DirectionId, ArrivalTime, DepartureTime, StopSequence, Monday, Tuesday, Wednesday, Thursday, Friday, Saturday, Sunday, StartDate, EndDate, Date, ExceptionType, StartTime, EndTime, HeadwaySecs, ExactTimes}
+use Rattle.timetable.specs.declared.column.Column.TheVariants.{AgencyId}
 use Rattle.timetable.specs.declared.column.TheConstants.Column.{ALL}
 
 pub at_number : (column : Column) → get_or ALL (number_of column) AgencyId ≡ column

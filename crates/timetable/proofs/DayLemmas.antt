@@ -1,9 +1,9 @@
 -- Entries by day, and the finite map that they make.
-use Rattle.std.proofs.Common.{◌≡◌, ℤ, List, Option, Some, Bool, cond, refl, sym, ap, ◌∙◌}
+use Rattle.std.proofs.Common.{◌≡◌, ℤ, List, Some, Bool, cond, refl}
 use Rattle.std.proofs.lemmas.Cmp.{int_cmp_total}
 use Rattle.std.specs.FinMap.{get, insert, int_cmp-IsAntisymmetric}
 use Rattle.std.specs.Map.{lookup}
-use Rattle.std.specs.Ordering.{eq_by_cmp, int_cmp, int_eq}
+use Rattle.std.specs.Ordering.{int_cmp, int_eq}
 use Rattle.rt_day.specs.declared.day.Day.{Day}
 use Rattle.timetable.specs.Groups.{days_of}
 use Rattle.timetable.proofs.KeyedLemmas.{IsKeyed, from_entries-keyed, lookup-keyed}

@@ -1,5 +1,5 @@
 -- Tables that go by an id keep to their keys.
-use Rattle.std.proofs.Common.{◌≡◌, ◌&&◌, ◌++◌, List, [], ◌∷◌, map, filter, find, unwrap_or, Bool, true, false, cond, Option, Some, None, option_map, Result, is_some, refl, sym, ap, ◌∙◌}
+use Rattle.std.proofs.Common.{◌≡◌, ◌&&◌, ◌++◌, List, [], ◌∷◌, map, filter, find, unwrap_or, Bool, true, false, cond, Option, Some, None, option_map, Result, refl, sym, ap, ◌∙◌}
 use Rattle.std.proofs.lemmas.Cmp.{int_cmp_total, nat_list_cmp_total}
 use Rattle.std.proofs.lemmas.Map.Text.{is_eq-slice_cmp}
 use Rattle.std.specs.FinMap.{empty, get, get-empty, get-insert, insert, int_cmp-IsAntisymmetric}
@@ -11,16 +11,15 @@ use Rattle.std.specs.Ordering.{eq_by_cmp, int_cmp, int_eq}
 use Rattle.std.specs.Str.{bytes_eq}
 use Rattle.timetable.specs.Cells.{Cells}
 use Rattle.timetable.specs.Formats.{by_id, day_key, listing, only, only_key}
-use Rattle.timetable.specs.Groups.{ByDay, exceptions}
+use Rattle.timetable.specs.Groups.{exceptions}
 use Rattle.timetable.specs.Laws.{HoldsEach, Keys, ListsEach, never_same, row_keys}
 use Rattle.timetable.specs.Maps.{ByText, Grouping, Text, grown, put_under, text_cmp}
 use Rattle.timetable.specs.Tables.{Format}
 use Rattle.timetable.specs.declared.fault.CellFault.{CellFault}
 use Rattle.timetable.specs.declared.file.File.{File}
-use Rattle.timetable.specs.declared.items.Exception.{Exception}
 use Rattle.timetable.specs.declared.row.Row.{Row}
 use Rattle.timetable.proofs.KeyedLemmas.{one_key}
-use Rattle.timetable.proofs.LawLemmas.{Adds, Keeps}
+use Rattle.timetable.proofs.LawLemmas.{Keeps}
 use Rattle.timetable.proofs.MapLemmas.{text_cmp-IsAntisymmetric}
 
 -- the table with a row of a new key

@@ -1,9 +1,9 @@
 -- Entries of a hash map, and the finite map that they make by a number or a text that stands for each key.
-use Rattle.std.proofs.Common.{◌≡◌, List, [], ◌∷◌, Option, Some, None, map, cond, Bool, true, false, Ordering, Less, Equal, Greater, refl, sym, ap, ◌∙◌}
+use Rattle.std.proofs.Common.{◌≡◌, List, [], ◌∷◌, Some, map, cond, Bool, true, Ordering, Less, Equal, Greater, refl, sym, ap, ◌∙◌}
 use Rattle.std.specs.Cmp.{IsTotalOrder, eq_by_cmp_equiv}
 use Rattle.std.specs.Ordering.{eq_by_cmp, is_eq}
 use Rattle.std.specs.Map.{lookup}
-use Rattle.std.specs.FinMap.{FinMap, IsAntisymmetric, find, from_entries, get, get-from_entries, get-insert, insert, same_map}
+use Rattle.std.specs.FinMap.{IsAntisymmetric, find, from_entries, get, get-from_entries, get-insert, insert, same_map}
 
 -- what stands for a key is found by a test on the keys
 pub record IsKeyed {K Q : Type 0} (cmp : Q → Q → Ordering) (key : K → Q) (test : Q → K → Bool) : Type 0 where

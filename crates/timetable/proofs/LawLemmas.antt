@@ -1,10 +1,10 @@
 -- A table that rows are put into one after the other holds what its rows say.
-use Rattle.std.proofs.Common.{◌≡◌, ℕ, ◌+◌, ◌++◌, ◌⊎◌, inl, inr, add-zero, List, [], ◌∷◌, length, map, Bool, true, false, cond, Option, Some, None, option_map, Result, Ok, Err, find, refl, sym, ap, ◌∙◌, append_assoc, arith}
+use Rattle.std.proofs.Common.{◌≡◌, ℕ, ◌+◌, ◌++◌, ◌⊎◌, inl, inr, add-zero, List, [], ◌∷◌, length, map, Bool, Option, Some, None, Result, Ok, Err, find, refl, ap, append_assoc, arith}
 use Rattle.std.proofs.lemmas.List.{append-nil}
 use Rattle.timetable.specs.Cells.{cells_of, ok_or, then_with}
-use Rattle.timetable.specs.Laws.{AreRows, FailsAtRow, FollowsRows, HasBadCell, IsAccepted, KeysDiffer, LacksColumn, RepeatsKey}
+use Rattle.timetable.specs.Laws.{FailsAtRow, FollowsRows, HasBadCell, IsAccepted, KeysDiffer, LacksColumn, RepeatsKey}
 use Rattle.timetable.specs.Rows.{Record}
-use Rattle.timetable.specs.Tables.{Format, at_row, missing_column, row_at, rows_from, table_under, unless_missing}
+use Rattle.timetable.specs.Tables.{Format, missing_column, row_at, rows_from, unless_missing}
 use Rattle.timetable.specs.declared.column.Column.{Column}
 use Rattle.timetable.specs.declared.fault.CellFault.{CellFault}
 use Rattle.timetable.specs.declared.fault.LoadFault.{LoadFault}

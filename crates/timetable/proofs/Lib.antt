@@ -9,9 +9,11 @@ pub mod DayLemmas
 pub mod LawLemmas
 pub mod KeyLemmas
 pub mod SequenceLemmas
+pub mod RowLemmas
 pub mod StopLemmas
 pub mod VisitLemmas
 pub mod FolderLemmas
 pub mod NumberLemmas
 pub mod TwiceLemmas
+pub mod ReturnLemmas
 pub mod TimetableLemmas

@@ -1,11 +1,15 @@
 -- Entries by text, and the finite map that they make.
-use Rattle.std.proofs.Common.{◌≡◌, List, Option, Some, None, String, Global, string_bytes, string_eq, cond, Bool, true, false, is_some, option_map, nat_cmp, refl, sym, ap, ◌∙◌}
+use Rattle.std.proofs.Common.{◌≡◌, List, [], ◌∷◌, ◌++◌, Option, Some, None, String, Global, string_bytes, string_eq, cond, Bool, true, false, is_some, option_map, refl, sym, ap, subst, ◌∙◌, append_assoc}
 use Rattle.std.proofs.lemmas.Cmp.{nat_list_cmp_total}
 use Rattle.std.proofs.lemmas.Map.Text.{hash_map_updates_text, is_eq-slice_cmp}
 use Rattle.std.specs.FinMap.{IsAntisymmetric, get, insert, nat_cmp-IsAntisymmetric, slice_cmp-IsAntisymmetric}
-use Rattle.std.specs.Map.{lookup}
+use Rattle.std.proofs.lemmas.Map.Keys.{IsDistinct-head, IsDistinct-tail}
+use Rattle.std.specs.List.{AllByRecursion, IsDistinct}
+use Rattle.std.specs.Map.{keys_of, lookup}
+use Rattle.std.specs.String.{string_eq_equiv}
+use Rattle.indexmap.proofs.CallerLemmas.{insert_entry-new}
 use Rattle.std.specs.Str.{bytes_eq}
-use Rattle.indexmap.specs.IndexMap.{IndexMap, UpdatesBy}
+use Rattle.indexmap.specs.IndexMap.{IndexMap, UpdatesBy, insert_entry}
 use Rattle.timetable.specs.Maps.{ByText, Text, table_of, text_cmp}
 use Rattle.timetable.proofs.KeyedLemmas.{IsKeyed, from_entries-keyed, lookup-keyed}
 
@@ -40,3 +44,23 @@ pub put_back : {V : Type 0} (m : ByText V) (q : Text) (v : V) (more : Option V) 
     → option_map (insert m q) more ≡ cond new (Some now) None
 put_back m q v more now true grown same = rw grown (ap Some same)
 put_back m q v more now false grown same = rw grown refl
+
+at_middle : {V : Type 0} (P : String Global → Type 0) (xs rest : List (String Global × V)) (e : String Global × V) → AllByRecursion P (keys_of (xs ++ e ∷ rest)) → P e.0
+at_middle P [] rest e all = all.0
+at_middle P (x ∷ xs) rest e all = at_middle P xs rest e all.1
+
+-- of distinct keys none stands before itself
+absent_before : {V : Type 0} (xs rest : List (String Global × V)) (e : String Global × V) → IsDistinct string_eq (keys_of (xs ++ e ∷ rest)) → lookup (string_eq e.0) xs ≡ None
+absent_before [] rest e distinct = refl
+absent_before (x ∷ xs) rest e distinct =
+    let others = IsDistinct-head string_eq x.0 (keys_of (xs ++ e ∷ rest)) distinct in
+    let apart : string_eq x.0 e.0 ≡ false = at_middle (λ k. string_eq x.0 k ≡ false) xs rest e others in
+    let laws = string_eq_equiv in
+    rw (laws.symm e.0 x.0 ∙ apart) (absent_before xs rest e (IsDistinct-tail string_eq x.0 (keys_of (xs ++ e ∷ rest)) distinct))
+
+-- the entries of a map go over to another one by one
+pub moved_over : {V S : Type 0} (m n : IndexMap (String Global) V S) (all rest : List (String Global × V)) (k : String Global) (v : V) → IsDistinct string_eq (keys_of all)
+    → m.entries ++ (k, v) ∷ rest ≡ all → n.entries ≡ insert_entry string_eq m.entries k v → n.entries ++ rest ≡ all
+moved_over m n all rest k v distinct split is =
+    let none = absent_before m.entries rest (k, v) (subst (λ es. IsDistinct string_eq (keys_of es)) (sym split) distinct) in
+    ap (λ es. es ++ rest) (is ∙ insert_entry-new string_eq m k v none) ∙ append_assoc m.entries ((k, v) ∷ []) rest ∙ split

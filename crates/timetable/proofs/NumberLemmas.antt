@@ -1,8 +1,8 @@
 -- Numbers of ids.
-use Rattle.std.proofs.Common.{◌≡◌, ◌<◌, ℕ, zero, suc, List, [], ◌∷◌, length, get_or, map, Option, Some, None, option_map, is_some, slice_get, Bool, true, false, refl, sym, ap, ◌∙◌, String, Global, string_bytes, string_eq, arith, position, unwrap_or}
+use Rattle.std.proofs.Common.{◌≡◌, ◌<◌, ℕ, zero, suc, List, [], ◌∷◌, length, get_or, Some, option_map, slice_get, refl, sym, ap, ◌∙◌, String, Global, string_bytes, string_eq, arith, position, unwrap_or}
 use Rattle.std.proofs.lemmas.List.Quantifiers.{position-Some}
 use Rattle.std.proofs.lemmas.Slice.Eq.{bytes_eq-Decides}
-use Rattle.std.specs.Map.{keys_of, lookup}
+use Rattle.std.specs.Map.{keys_of}
 use Rattle.std.specs.FinMap as map
 use Rattle.indexmap.specs.IndexMap.{IndexMap, get}
 use Rattle.timetable.specs.Maps.{Text, by_text, table_of}

@@ -1,5 +1,5 @@
 -- A search for a column, from one place to the next.
-use Rattle.std.proofs.Common.{◌≡◌, ◌<◌, ◌+◌, ℕ, zero, suc, List, [], ◌∷◌, length, drop, Option, Some, None, unwrap_or, Bool, true, false, refl, sym, ap, ◌∙◌, add-one, arith, cond}
+use Rattle.std.proofs.Common.{◌≡◌, ◌<◌, ◌+◌, ℕ, zero, suc, List, [], ◌∷◌, length, drop, Some, unwrap_or, Bool, true, false, refl, sym, ap, add-one, arith, cond}
 use Rattle.std.specs.Str.{bytes_eq}
 use Rattle.std.specs.List.{position_from}
 use Rattle.csv.specs.Records.{field_at}

@@ -1,5 +1,5 @@
 -- What stands at a place of rising stop times.
-use Rattle.std.proofs.Common.{◌≡◌, ◌<◌, ◌≤◌, ◌+◌, ◌-◌, ◌++◌, ◌∷◌, [], ℕ, zero, suc, List, length, get_or, map, Bool, true, false, cond, ◌&&◌, Option, Some, None, slice_get, refl, sym, ap, ◌∙◌, arith, IsTrue, subst, Result, Ok, Err, IfOk, IfErr, take, drop, T, Less, Greater, is_some, All}
+use Rattle.std.proofs.Common.{◌≡◌, ◌<◌, ◌≤◌, ◌∷◌, [], ℕ, zero, suc, List, length, get_or, Bool, true, false, ◌&&◌, Some, None, slice_get, refl, sym, ap, ◌∙◌, arith, IsTrue, subst, Result, Ok, Err, IfOk, IfErr, T, Less, Greater, All}
 use Rattle.std.specs.List.{insert}
 use Rattle.std.specs.List.Sorted.{IsSearchInRange, IsBinarySearchResult, IsNonDecreasingBy}
 use Rattle.std.specs.Ordering.{nat_cmp, ordering_index, is_lt, eq_by_cmp}
@@ -9,14 +9,14 @@ use Rattle.std.proofs.lemmas.Bool.Decides.{nat_tests}
 use Rattle.std.specs.FinMap as map
 use Rattle.std.specs.FinMap.{find, is_sorted, put}
 use Rattle.std.specs.FinMap.Entries.{below_all, is_sorted-put}
-use Rattle.timetable.specs.Times.{AreRising, BySequence, IsGapFor, StandsAt, keyed, no_time, sequence_at, sequences}
+use Rattle.timetable.specs.Times.{AreRising, IsGapFor, StandsAt, keyed, no_time, sequence_at}
 use Rattle.timetable.specs.declared.stop_time.StopTime.{StopTime}
 
-both_true : (a b : Bool) → IsTrue (a && b) → IsTrue a × IsTrue b
+pub both_true : (a b : Bool) → IsTrue (a && b) → IsTrue a × IsTrue b
 both_true true b h = (refl, h)
 both_true false b h = cc h
 
-less : (a b : ℕ) → IsTrue (is_lt (nat_cmp a b)) → a < b
+pub less : (a b : ℕ) → IsTrue (is_lt (nat_cmp a b)) → a < b
 less a b h = grind (arith, nat_tests, h)
 
 -- each of the later ones is above the first
@@ -101,7 +101,7 @@ put_in_gap (x ∷ ts) t (suc i) gap =
 
 -- ---- the same of the finite map
 
-rising_list : (ts : List StopTime) → AreRising ts → T (is_sorted nat_cmp (keyed ts))
+pub rising_list : (ts : List StopTime) → AreRising ts → T (is_sorted nat_cmp (keyed ts))
 rising_list ts rising = subst T (sym rising) tt
 
 pub all_entries : (ts : List StopTime) → AreRising ts → keyed ts ≡ map.entries (map.from_sorted {R = nat_cmp} (keyed ts))
@@ -120,27 +120,8 @@ still_rising ts t i rising gap = rw (put_in_gap ts t i gap) (from_T _ (is_sorted
     from_T true h = refl
     from_T false h = absurd h
 
-pub put_inserts : (ts : List StopTime) (t : StopTime) (i : ℕ) → AreRising ts → IsGapFor ts t.sequence i
-    → map.from_sorted {R = nat_cmp} (keyed (insert ts i t)) ≡ map.insert (map.from_sorted {R = nat_cmp} (keyed ts)) t.sequence t
-put_inserts ts t i rising gap = map.same_entries_map _ _
-    (sym (all_entries (insert ts i t) (still_rising ts t i rising gap)) ∙ put_in_gap ts t i gap
-    ∙ ap (put nat_cmp t.sequence t) (all_entries ts rising)
-    ∙ sym (map.entries-insert nat_cmp_total (map.from_sorted {R = nat_cmp} (keyed ts)) t.sequence t))
-
 pub no_entries : map.from_sorted {R = nat_cmp} (keyed []) ≡ map.empty
 no_entries = map.empty_of_len _ (map.len-entries _ ∙ ap length (map.entries-from_sorted nat_cmp (keyed []) tt))
-
--- whether a sequence is there, by its place or its gap
-pub is_there : (ts : List StopTime) (q i : ℕ) → AreRising ts → StandsAt ts q i → is_some (map.get (map.from_sorted {R = nat_cmp} (keyed ts)) q) ≡ true
-is_there ts q i rising at = ap is_some (sym (get_at ts q i rising at)) ∙ at_place ts i at.in_range
-  where
-    at_place : (xs : List StopTime) (j : ℕ) → j < length xs → is_some (slice_get xs j) ≡ true
-    at_place [] j h = absurd (omega arith)
-    at_place (x ∷ xs) zero h = refl
-    at_place (x ∷ xs) (suc j) h = at_place xs j (omega arith)
-
-pub is_absent : (ts : List StopTime) (q i : ℕ) → AreRising ts → IsGapFor ts q i → is_some (map.get (map.from_sorted {R = nat_cmp} (keyed ts)) q) ≡ false
-is_absent ts q i rising gap = ap is_some (get_none ts q i rising gap)
 
 some_at : (xs : List StopTime) (j : ℕ) (d : StopTime) → j < length xs → slice_get xs j ≡ Some (get_or xs j d)
 some_at [] j d h = absurd (omega arith)
@@ -150,14 +131,6 @@ some_at (x ∷ xs) (suc j) d h = some_at xs j d (omega arith)
 -- the stop time that was read at a place is the map's
 pub read_at : (ts : List StopTime) (q i : ℕ) (t : StopTime) → AreRising ts → StandsAt ts q i → t ≡ get_or ts i t → Some t ≡ map.get (map.from_sorted {R = nat_cmp} (keyed ts)) q
 read_at ts q i t rising at is = ap Some is ∙ sym (some_at ts i t at.in_range) ∙ get_at ts q i rising at
-
--- the first stop time of a trip is new
-pub first_time : (time : StopTime) (trip now : BySequence) (new : Bool) → trip ≡ map.empty → sequences.more trip time ≡ cond new (Some now) None → now ≡ map.insert map.empty time.sequence time
-first_time time trip now new none put = by new (sym (ap (λ m. sequences.more m time) none ∙ ap (λ o. cond (is_some o) None (Some (map.insert map.empty time.sequence time))) (map.get-empty nat_cmp time.sequence)) ∙ put)
-  where
-    by : (new : Bool) → Some (map.insert map.empty time.sequence time) ≡ cond new (Some now) None → now ≡ map.insert map.empty time.sequence time
-    by true h = cc h
-    by false h = cc h
 
 -- each stop time is the one of its sequence
 pub each_held : (ts : List StopTime) → AreRising ts → All (λ t. map.get (map.from_sorted {R = nat_cmp} (keyed ts)) t.sequence ≡ Some t) ts

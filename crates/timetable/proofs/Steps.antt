@@ -1,6 +1,6 @@
 -- What a step of a reader of a slice does to the records that are left.
-use Rattle.std.proofs.Common.{◌≡◌, ℕ, List, [], ◌∷◌, Option, Some, None, Ok, Bool, true, false, refl, sym, ap, ◌∙◌, Bor, inl, unwrap_or, cond}
-use Rattle.csv.specs.Machine.{Read, ends_at_end, next_record}
+use Rattle.std.proofs.Common.{◌≡◌, ℕ, List, [], ◌∷◌, Option, Some, None, Ok, true, false, refl, sym, ap, ◌∙◌, Bor, inl, unwrap_or}
+use Rattle.csv.specs.Machine.{ends_at_end}
 use Rattle.csv.specs.Records.{Row, fields_of}
 use Rattle.csv.specs.Reading.{FlexibleStep, ReadRecord, Reached, RowStep, default_config, reader_config, reader_state}
 use Rattle.csv.specs.declared.parser.State.{State}

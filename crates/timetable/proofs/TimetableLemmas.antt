@@ -1,5 +1,5 @@
 -- Timetables that were read.
-use Rattle.std.proofs.Common.{◌≡◌, ◌<◌, ◌⊎◌, inl, inr, ℕ, List, [], ◌∷◌, Bor, Option, Some, None, Result, Ok, IfSome, length, option_map, unwrap_or, refl, sym, ap, ◌∙◌, arith}
+use Rattle.std.proofs.Common.{◌≡◌, ◌<◌, inl, inr, ℕ, List, [], ◌∷◌, Bor, Option, Some, None, Ok, IfSome, length, option_map, unwrap_or, refl, sym, ap, ◌∙◌}
 use Rattle.std.specs.FinMap.{empty, entries, get}
 use Rattle.std.specs.Option.{option_and_then, option_copied}
 use Rattle.rt_outside.specs.Store.{Contents}
@@ -11,10 +11,12 @@ use Rattle.timetable.specs.Lookups.{IsServiceOf, trip_row}
 use Rattle.timetable.specs.Numbers.{HasNumber}
 use Rattle.timetable.specs.Rows.{Record, records_of}
 use Rattle.timetable.specs.Stops.{HaveStops, HoldsVisits, StopTable, visit_key, visits}
-use Rattle.timetable.specs.Tables.{absent_table, table_in, table_of_records, without_mark}
+use Rattle.timetable.specs.Tables.{table_in, table_of_records, without_mark}
 use Rattle.timetable.specs.Times.{BySequence, keyed}
 use Rattle.timetable.specs.Timetables.{KnowsTwice, Loaded, loaded_from, tables_from, tables_of, trip_times}
 use Rattle.timetable.specs.declared.items.Trip.{Trip}
+use Rattle.timetable.specs.declared.items.Visit.{Visit}
+use Rattle.timetable.specs.declared.row.Row.{Row}
 use Rattle.timetable.specs.declared.stop_time.StopTime.{StopTime}
 use Rattle.timetable.specs.declared.timetable.ServiceNo.{ServiceNo}
 use Rattle.timetable.specs.declared.timetable.Timetable.{Timetable}
@@ -25,14 +27,18 @@ use Rattle.timetable.proofs.VisitLemmas.{keeps_visits}
 law : FollowsRows visits visit_key.same HoldsVisits
 law = follows_rows visits visit_key.same HoldsVisits keeps_visits
 
--- stop times that were read have stops
+-- stop times that were read are those of rows
+pub rows_of_read : (bytes : List ℕ) (table : StopTable) → table_in visits bytes ≡ Ok table → (rows : List (Row Visit)) × HoldsVisits table rows
+rows_of_read bytes table read = by (records_of (without_mark bytes)) read
+  where
+    by : (records : List Record) → table_of_records visits records ≡ Ok table → (rows : List (Row Visit)) × HoldsVisits table rows
+    by [] e = let a = law.accepted [] [] table e in (a.rows, a.says)
+    by (header ∷ records) e = let a = law.accepted header records table e in (a.rows, a.says)
+
+-- and have stops
 pub stops_of_read : (table : StopTable) → IsRead visits table → HaveStops table
 stops_of_read table (inl e) = cc e
-stops_of_read table (inr read) = by (records_of (without_mark read.0)) read.1
-  where
-    by : (records : List Record) → table_of_records visits records ≡ Ok table → HaveStops table
-    by [] e = let a = law.accepted [] [] table e in a.says.stops
-    by (header ∷ records) e = let a = law.accepted header records table e in a.says.stops
+stops_of_read table (inr read) = let held = rows_of_read read.0 table read.1 in let says = held.1 in says.stops
 
 pub no_stops : HaveStops visits.empty
 no_stops = let empty = keeps_visits.empty in empty.stops

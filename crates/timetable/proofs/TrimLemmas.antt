@@ -1,6 +1,6 @@
 -- Trimming at the back, from the back.
 use Rattle.std.proofs.lemmas.List.{drop_all, take-append-drop}
-use Rattle.std.proofs.Common.{◌≡◌, ◌≤◌, ◌-◌, ℕ, suc, List, [], ◌∷◌, ◌++◌, length, take, drop, drop-cons, get_or, arith, Bool, true, false, refl, sym, ap, ◌∙◌}
+use Rattle.std.proofs.Common.{◌≡◌, ◌≤◌, ◌-◌, ℕ, suc, List, [], ◌∷◌, ◌++◌, length, take, drop, drop-cons, get_or, arith, true, false, refl, sym, ap, ◌∙◌}
 use Rattle.timetable.specs.Fields.{before_rest, is_blank, trim_back}
 
 -- a blank at the back goes

@@ -1,17 +1,13 @@
 -- Trips that visit a stop twice.
-use Rattle.std.proofs.Common.{◌≡◌, ◌<◌, ◌+◌, ◌++◌, ℕ, zero, suc, List, [], ◌∷◌, Bool, false, Option, Some, None, get_or, length, map, nat_cmp, option_map, slice_get, unwrap_or, refl, sym, ap, ◌∙◌, arith}
+use Rattle.std.proofs.Common.{◌≡◌, List, [], false, Some, None, map, unwrap_or, sym, ap, ◌∙◌}
 use Rattle.std.specs.FinMap.{empty, entries, get}
 use Rattle.timetable.specs.Maps.{Text}
-use Rattle.timetable.specs.Numbers.{HasNumber}
 use Rattle.timetable.specs.Stops.{StopTable}
 use Rattle.timetable.specs.Times.{BySequence, keyed}
 use Rattle.timetable.specs.Timetables.{returns_to, trip_times, visits_twice}
+use Rattle.timetable.proofs.RowLemmas.{unkeyed}
 use Rattle.timetable.proofs.SequenceLemmas.{entries-empty}
 use Rattle.timetable.specs.declared.stop_time.StopTime.{StopTime}
-
-unkeyed : (ts : List StopTime) → map (λ e. e.1) (keyed ts) ≡ ts
-unkeyed [] = refl
-unkeyed (t ∷ ts) = ap (λ rest. t ∷ rest) (unkeyed ts)
 
 -- the stop times of a trip, by rising sequence, tell
 pub returns_to-entries : (table : StopTable) (id : Text) (trip : BySequence) (ts : List StopTime) → Some trip ≡ get table.times id → keyed ts ≡ entries trip

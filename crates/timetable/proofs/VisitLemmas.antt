@@ -1,24 +1,24 @@
 -- Stop times hold the rows of stop_times.txt.
 use Rattle.std.proofs.Common.{◌≡◌, ◌<◌, ◌≤◌, ◌+◌, ◌==◌, ◌&&◌, ◌++◌, ℕ, zero, suc, List, [], ◌∷◌, length, slice_get, unwrap_or, Bool, true, false, cond, Option, Some, None, Err, option_map, find, nat_cmp, refl, sym, ap, ◌∙◌, subst, arith, length-append}
-use Rattle.std.proofs.lemmas.Cmp.{nat_cmp_total}
+use Rattle.std.proofs.lemmas.Cmp.{nat_cmp_total, nat_list_eq_equiv}
+use Rattle.std.proofs.lemmas.Map.Keys.{IsDistinct-push}
 use Rattle.std.proofs.lemmas.List.Folds.{find-append}
 use Rattle.std.specs.Cmp.{unsigned_tied}
 use Rattle.std.specs.FinMap.{empty, get, get-empty, get-insert, insert, nat_cmp-IsAntisymmetric}
-use Rattle.std.specs.List.{list_any, position_or_len}
+use Rattle.std.specs.List.{IsDistinct, list_any}
 use Rattle.std.specs.Option.{option_and_then, option_or}
 use Rattle.std.specs.Ordering.{eq_by_cmp}
 use Rattle.std.specs.Str.{bytes_eq}
 use Rattle.timetable.specs.Formats.{by_id}
-use Rattle.timetable.specs.Items.{visit_row}
-use Rattle.timetable.specs.Laws.{HoldsEach, Keys, row_keys}
-use Rattle.timetable.specs.Maps.{ByText, Text, put_under, text_cmp}
-use Rattle.timetable.specs.Stops.{HaveStops, HoldsVisits, StopTable, ids_with, number_in, stop_time_at, stop_time_of, visit_added, visit_key, visit_of, visits}
+use Rattle.timetable.specs.Laws.{Keys, row_keys}
+use Rattle.timetable.specs.Maps.{ByText, Text, text_cmp}
+use Rattle.timetable.specs.Stops.{HaveStops, HoldsVisits, StopTable, ids_with, number_in, stop_time_at, stop_time_of, visit_key, visit_of, visits}
 use Rattle.timetable.specs.Times.{BySequence, sequences}
 use Rattle.timetable.specs.declared.fault.CellFault.TheVariants.{NotText}
 use Rattle.timetable.specs.declared.items.Visit.{Visit}
 use Rattle.timetable.specs.declared.row.Row.{Row}
 use Rattle.timetable.specs.declared.stop_time.StopTime.{StopTime}
-use Rattle.timetable.proofs.KeyLemmas.{Holds, KeepsItems, KeepsKeys, both_true, find-alike, keyed_by_id, one_text, or_none}
+use Rattle.timetable.proofs.KeyLemmas.{KeepsItems, KeepsKeys, find-alike, keyed_by_id, one_text, or_none}
 use Rattle.timetable.proofs.KeyedLemmas.{one_key}
 use Rattle.timetable.proofs.LawLemmas.{Adds, Keeps}
 
@@ -79,6 +79,18 @@ numbers ids id = by (list_any (bytes_eq id) ids) refl
           kept = λ n h. rw is (slice_get-front ids (id ∷ []) n h);
         }
 
+-- no id has two numbers
+no_ids : IsDistinct bytes_eq []
+unfolding IsDistinct
+no_ids = tt
+
+distinct_with : (ids : List Text) (id : Text) → IsDistinct bytes_eq ids → IsDistinct bytes_eq (ids_with ids id)
+distinct_with ids id distinct = by (list_any (bytes_eq id) ids) refl
+  where
+    by : (b : Bool) → list_any (bytes_eq id) ids ≡ b → IsDistinct bytes_eq (cond b ids (ids ++ id ∷ []))
+    by true is = distinct
+    by false is = IsDistinct-push nat_list_eq_equiv ids id distinct is
+
 -- ---- stop times by sequence
 
 -- a trip has one stop time of each sequence
@@ -128,6 +140,7 @@ holds_visit table done row holds new =
       says = record {
         held = λ other. held other put.more put.held (visit_key.same other row) refl;
         stops = λ id sequence time at. stops put.more put.held id sequence time at;
+        distinct = distinct_with table.stops row.item.stop holds.distinct;
       };
     }
   where
@@ -177,6 +190,7 @@ pub keeps_visits : Keeps visits visit_key.same HoldsVisits
 keeps_visits = record {
   empty = record {
     held = λ row. ap (λ o. option_map (visit_of []) (option_and_then (λ trip. get trip row.item.sequence) o)) (get-empty text_cmp row.id);
+    distinct = no_ids;
     stops = λ id sequence time at. let none = sym (ap (option_and_then (λ trip. get trip sequence)) (get-empty text_cmp id)) ∙ at in cc none;
   };
   fresh = holds_visit;

@@ -1,5 +1,5 @@
 -- The cells of a row: what stands in each column.
-use Rattle.std.specs.Prelude.{ℕ, List, [], ◌∷◌, Option, Some, None, option_map, Result, Ok, Err, if◌then◌else◌}
+use Rattle.std.specs.Prelude.{ℕ, List, [], Option, Some, None, option_map, Result, Ok, Err, if◌then◌else◌}
 use Rattle.std.specs.Str.{bytes_eq}
 use Rattle.timetable.specs.Rows.{Record}
 use Rattle.timetable.specs.Columns.{name_of}

@@ -1,5 +1,5 @@
 -- The files whose tables go by one id.
-use Rattle.std.specs.Prelude.{List, [], ◌∷◌, ◌++◌, Bool, true, Option, Some, None, Result, option_map}
+use Rattle.std.specs.Prelude.{List, [], ◌∷◌, ◌++◌, Bool, true, Some, None, Result}
 use Rattle.std.specs.FinMap.{empty, get}
 use Rattle.std.specs.Ordering.{int_eq}
 use Rattle.timetable.specs.Cells.{Cells}

@@ -1,11 +1,10 @@
 -- What stands under one service or trip id.
-use Rattle.std.specs.Prelude.{ℤ, List, [], ◌∷◌, ◌++◌, Bool, Option, Some, None, map, is_some, if◌then◌else◌}
+use Rattle.std.specs.Prelude.{List, Bool, Some, None, map, is_some, if◌then◌else◌}
 use Rattle.std.specs.FinMap.{FinMap, empty, from_entries, get, insert}
 use Rattle.std.specs.Ordering.{int_cmp}
 use Rattle.rt_day.specs.declared.day.Day.{Day}
 use Rattle.timetable.specs.Maps.{Grouping}
 use Rattle.timetable.specs.declared.items.Exception.{Exception}
-use Rattle.timetable.specs.declared.items.Frequency.{Frequency}
 
 -- whether a day is added, by the day's number
 abbrev pub ByDay : Type 0

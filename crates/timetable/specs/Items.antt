@@ -17,7 +17,6 @@ use Rattle.timetable.specs.declared.items.Visit.{Visit}
 use Rattle.timetable.specs.declared.row.Row.{Row}
 use Rattle.timetable.specs.declared.values.Flag.{Flag}
 use Rattle.timetable.specs.declared.values.LocationType.{LocationType}
-use Rattle.timetable.specs.declared.values.Sequence.{Sequence}
 use Rattle.timetable.specs.declared.values.Time.{Time}
 
 -- agency.txt: the id may be blank

@@ -1,6 +1,6 @@
 -- What a table holds, in words of its rows' keys and records. The laws of the crate join these words to `table_under`,
 -- which puts one row after the other into the table.
-use Rattle.std.specs.Prelude.{◌≡◌, ℕ, ◌+◌, ◌&&◌, ◌⊎◌, ⊤, List, [], ◌∷◌, ◌++◌, length, map, Bool, false, Option, Some, None, option_map, option_and_then, Result, Ok, Err, filter, find, unwrap_or}
+use Rattle.std.specs.Prelude.{◌≡◌, ℕ, ◌+◌, ◌&&◌, ◌⊎◌, ⊤, List, [], ◌∷◌, ◌++◌, length, map, Bool, false, Option, Some, None, option_map, option_and_then, Ok, Err, filter, find, unwrap_or}
 use Rattle.std.specs.FinMap.{get}
 use Rattle.std.specs.Str.{bytes_eq}
 use Rattle.timetable.specs.Cells.{cells_of}

@@ -1,5 +1,5 @@
 -- Ids by number.
-use Rattle.std.specs.Prelude.{◌≡◌, ℕ, List, Option, Some, option_map, slice_get}
+use Rattle.std.specs.Prelude.{◌≡◌, ℕ, List, Some, option_map, slice_get}
 use Rattle.std.specs.FinMap.{from_entries}
 use Rattle.timetable.specs.Maps.{ByText, Text}
 

@@ -1,6 +1,6 @@
 -- Stop times with the numbers of their stops.
 use Rattle.std.specs.Prelude.{◌≡◌, ◌<◌, ℕ, List, [], ◌∷◌, ◌++◌, length, ◌&&◌, ◌==◌, Option, Some, option_and_then, option_map, slice_get, unwrap_or, if◌then◌else◌, refl}
-use Rattle.std.specs.List.{list_any, position_or_len}
+use Rattle.std.specs.List.{IsDistinct, list_any, position_or_len}
 use Rattle.std.specs.Str.{bytes_eq}
 use Rattle.std.specs.Coded.{Coded, code_by, coded×, coded_list, coded_ℕ}
 use Rattle.std.specs.FinMap.{code, empty, get}
@@ -64,7 +64,8 @@ visit_key = record {
   held = λ table row. option_map (visit_of table.stops) (stop_time_at table.times row.id row.item.sequence);
 }
 
--- the table holds each row, and no stop time without a stop
+-- the table holds each row, no stop time without a stop, and no stop id twice
 pub record HoldsVisits (table : StopTable) (rows : List (Row Visit)) : Type 0 where
   pub held : HoldsEach visit_key table rows
   pub stops : HaveStops table
+  pub distinct : IsDistinct bytes_eq table.stops

@@ -2,7 +2,7 @@
 use Rattle.std.specs.Prelude.{◌≡◌, ◌<◌, ◌≤◌, ℕ, List, length, map, slice_index_or, IsTrue, Option, Some, None, is_some, if◌then◌else◌, refl}
 use Rattle.std.specs.Coded.{Coded, code_by, coded×, coded_ℕ, coded_option}
 use Rattle.std.specs.Ordering.{nat_cmp}
-use Rattle.std.specs.FinMap.{FinMap, empty, get, insert, is_sorted}
+use Rattle.std.specs.FinMap.{FinMap, empty, from_entries, get, insert, is_sorted}
 use Rattle.timetable.specs.Maps.{Grouping}
 use Rattle.timetable.specs.declared.stop_time.StopTime.{StopTime}
 
@@ -19,6 +19,14 @@ sequences = record {
 -- stop times beside their sequences
 abbrev pub keyed : List StopTime → List (ℕ × StopTime)
 keyed ts = map (λ t. (t.sequence, t)) ts
+
+-- each stop time stands under its sequence
+abbrev pub AreKeyed : List (ℕ × StopTime) → Type 0
+AreKeyed entries = keyed (map (λ entry. entry.1) entries) ≡ entries
+
+-- the map of entries, where the first of a repeated sequence counts
+abbrev pub by_sequence : List (ℕ × StopTime) → BySequence
+by_sequence entries = from_entries entries
 
 -- the sequences strictly rise
 abbrev pub AreRising : List StopTime → Type 0

@@ -1,5 +1,5 @@
 -- Timetables as finite maps.
-use Rattle.std.specs.Prelude.{◌≡◌, ◌==◌, ◌||◌, ◌++◌, ℕ, List, [], ◌∷◌, Bool, false, length, map, slice_index_or, Result, Ok, unwrap_or}
+use Rattle.std.specs.Prelude.{◌≡◌, ◌<◌, ◌↔◌, ◌==◌, ◌||◌, ◌++◌, ℕ, List, [], ◌∷◌, Bool, false, length, map, slice_index_or, IsTrue, Some, option_map, Result, Ok, unwrap_or}
 use Rattle.std.specs.List.{list_any}
 use Rattle.std.specs.FinMap.{empty, entries, get}
 use Rattle.rt_outside.specs.Store.{Contents}
@@ -9,7 +9,8 @@ use Rattle.timetable.specs.Formats.{agencies, dates, departures, routes, service
 use Rattle.timetable.specs.Groups.{ByDay}
 use Rattle.timetable.specs.Maps.{ByText, Text}
 use Rattle.timetable.specs.Numbers.{HasNumber}
-use Rattle.timetable.specs.Stops.{StopTable, visits}
+use Rattle.timetable.specs.Stops.{StopTable, stop_time_at, visit_of, visits}
+use Rattle.timetable.specs.Tables.{table_in}
 use Rattle.timetable.specs.Times.{BySequence}
 use Rattle.timetable.specs.declared.fault.LoadFault.{LoadFault}
 use Rattle.timetable.specs.declared.grouped.Only.{Only}
@@ -19,6 +20,7 @@ use Rattle.timetable.specs.declared.items.Route.{Route}
 use Rattle.timetable.specs.declared.items.ServiceRow.{ServiceRow}
 use Rattle.timetable.specs.declared.items.Stop.{Stop}
 use Rattle.timetable.specs.declared.items.Trip.{Trip}
+use Rattle.timetable.specs.declared.items.Visit.{Visit}
 use Rattle.timetable.specs.declared.stop_time.StopTime.{StopTime}
 
 -- what the eight files say
@@ -80,6 +82,22 @@ returns_to seen (time ∷ times) = list_any (λ stop. time.stop == stop) seen ||
 -- whether a trip visits some stop twice
 abbrev pub visits_twice : BySequence → Bool
 visits_twice times = returns_to [] (map (λ entry. entry.1) (entries times))
+
+-- two visits of a trip, at different sequences, have one stop id
+pub record StopsTwice (table : StopTable) (id : Text) : Type 0 where
+  pub first : ℕ
+  pub later : ℕ
+  pub one : Visit
+  pub other : Visit
+  pub earlier : first < later
+  pub at_first : option_map (visit_of table.stops) (stop_time_at table.times id first) ≡ Some one
+  pub at_later : option_map (visit_of table.stops) (stop_time_at table.times id later) ≡ Some other
+  pub same : one.stop ≡ other.stop
+
+-- in the table of any file `visits_twice` is true exactly where that is so
+abbrev pub TellsReturns : Type 0
+TellsReturns = (bytes : List ℕ) (table : StopTable) (id : Text) → table_in visits bytes ≡ Ok table
+    → IsTrue (visits_twice (trip_times table id)) ↔ StopsTwice table id
 
 -- for each trip, by number, whether it visits some stop twice
 pub record KnowsTwice (trips : List (Text × Only Trip)) (table : StopTable) (twice : List Bool) : Type 0 where

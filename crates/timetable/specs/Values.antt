@@ -1,6 +1,6 @@
 -- What may stand in a cell: GTFS Schedule Reference, "Field Types" and the fields' own values. The bounds on
 -- lengths are this profile's.
-use Rattle.std.specs.Prelude.{ℕ, ◌^◌, ◌≤◌, List, Bool, true, false, codes, nat_le, nat_lt, Option, Some, None, option_and_then, option_map, if◌then◌else◌}
+use Rattle.std.specs.Prelude.{ℕ, ◌^◌, List, true, false, codes, nat_le, nat_lt, Option, Some, None, option_and_then, option_map, if◌then◌else◌}
 use Rattle.std.specs.Str.{bytes_eq}
 use Rattle.rt_day.specs.Date.{date_of}
 use Rattle.rt_day.specs.Digits.{number_of}

@@ -13,6 +13,7 @@ use crate::grouped::{Group, Grouped};
 use crate::row::Item;
 use crate::stop_times::StopTimes;
 use crate::table::{Table, absent_table, read_table};
+use crate::visits::Visits;
 use rt_outside::{Files, ReadEnd, read_whole};
 use std::alloc::{AllocError, Global};
 
@@ -90,7 +91,8 @@ impl Source for StopTimes {
         folder: &str,
         limit: usize,
     ) -> Result<StopTimes, LoadFault> {
-        load_table(alloc, files, folder, limit)
+        let visits: Visits = load_table(alloc, files, folder, limit)?;
+        Ok(visits.settled(alloc)?)
     }
 }
 

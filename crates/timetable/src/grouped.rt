@@ -2,7 +2,7 @@
 
 ghost use Rattle.std.specs.Prelude.{◌≡◌, false, true, IfOk, Some, None, if◌then◌else◌, is_some, option_copied};
 ghost use Rattle.std.specs.FinMap as map;
-ghost use Rattle.timetable.specs.Maps.{put_under};
+ghost use Rattle.timetable.specs.Maps.{put_under, table_of};
 ghost use Rattle.timetable.specs.Numbers.{map_of};
 
 use crate::id::Id;
@@ -49,7 +49,7 @@ impl<G> Model for Grouped<G> {
     ghost view = { λ grouped. table_of grouped.groups.entries };
 }
 
-impl<G: Group + Drop> Grouped<G> {
+impl<G: Drop> Grouped<G> {
     pub fn new(alloc: Global) -> Grouped<G>
         ensures { result ≡ map.empty }
     {
@@ -65,13 +65,29 @@ impl<G: Group + Drop> Grouped<G> {
         self.groups.get(id)
     }
 
+    /// The groups of a map.
+    pub fn of(groups: IndexMap<String, G>) -> Grouped<G>
+        ensures { result ≡ table_of groups.entries }
+    {
+        Grouped { groups }
+    }
+
+    /// The map of the groups.
+    pub fn into_groups(self) -> IndexMap<String, G>
+        ensures { table_of result.entries ≡ self }
+    {
+        self.groups
+    }
+
     /// The same groups by number.
     pub fn into_numbered(self) -> Numbered<G>
         ensures { map_of result ≡ self }
     {
         Numbered::new(self.groups)
     }
+}
 
+impl<G: Group + Drop> Grouped<G> {
     /// Adds an item under an id, unless its key stood there before, and tells whether it was new.
     pub fn put(&mut self, alloc: Global, id: Id, item: G::Item) -> Result<bool, AllocError>
         ensures { IfOk result (λ new. put_under G.grouping self.old id item ≡ (if new then Some self.new else None)) }

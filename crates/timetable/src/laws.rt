@@ -3,6 +3,7 @@
 ghost use Rattle.timetable.specs.Formats.{agencies, dates, day_key, departures, only_key, routes, services, stops, trips};
 ghost use Rattle.timetable.specs.Laws.{FollowsRows, HoldsEach, ListsEach, never_same, row_keys};
 ghost use Rattle.timetable.specs.Stops.{HoldsVisits, visit_key, visits};
+ghost use Rattle.timetable.specs.Timetables.{TellsReturns};
 
 /// Of an accepted file no required column is missing, and each row is read without a fault. Where the
 /// file has a key, no two rows have one key, and the table has under each row's key that row's record
@@ -19,4 +20,10 @@ pub fn tables_follow_their_rows()
     ensures calendar { FollowsRows services (row_keys only_key).same (HoldsEach (row_keys only_key)) }
     ensures calendar_dates { FollowsRows dates (row_keys day_key).same (HoldsEach (row_keys day_key)) }
     ensures frequencies { FollowsRows departures never_same ListsEach }
+{}
+
+/// A trip visits a stop twice exactly where two of its stop times, at different sequences, have one
+/// stop id.
+pub fn visits_twice_follows_its_stops()
+    ensures { TellsReturns }
 {}

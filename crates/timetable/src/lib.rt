@@ -7,9 +7,10 @@
 //!
 //! From the bottom up: `rows` hands out the records of a CSV file; `column`, `file` and `fault` are the
 //! names that faults are made of; `field`, `header`, `cells` and `values` find and read what stands in a
-//! column; `id`, `row` and `items` read a row; `grouped`, `groups`, `trip_times`, `stop_ids`,
-//! `stop_times` and `numbered` hold rows; `table` reads a file and `folder` several; `twice` and
-//! `timetable` are the whole. `laws` says what the tables hold in words of their rows.
+//! column; `id`, `row` and `items` read a row; `grouped`, `groups`, `stop_ids` and `numbered` hold rows,
+//! `trip_rows` and `visits` stop times while they are read, `trip_times` and `stop_times` from then on;
+//! `table` reads a file and `folder` several; `twice` and `timetable` are the whole. `laws` says what the
+//! tables hold in words of their rows.
 #![tactic(auto)]
 
 mod cells;
@@ -32,15 +33,17 @@ mod stop_time;
 mod stop_times;
 mod table;
 mod timetable;
+mod trip_rows;
 mod trip_times;
 mod twice;
 mod values;
+mod visits;
 
 pub use column::Column;
 pub use fault::LoadFault;
 pub use file::File;
 pub use items::{Frequency, ServiceRow};
-pub use laws::tables_follow_their_rows;
+pub use laws::{tables_follow_their_rows, visits_twice_follows_its_stops};
 pub use rows::Rows;
 pub use stop_time::StopTime;
 pub use timetable::{ServiceNo, Timetable, TripNo};

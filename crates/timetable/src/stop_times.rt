@@ -2,18 +2,12 @@
 
 ghost use Rattle.std.specs.Prelude.{◌≡◌, ◌<◌, Some, length, option_copied, slice_get};
 ghost use Rattle.std.specs.FinMap as map;
+ghost use Rattle.timetable.specs.Stops.{visits};
 
-use crate::cells::Cells;
-use crate::fault::CellFault;
-use crate::file::File;
 use crate::grouped::Grouped;
-use crate::items::Visit;
-use crate::row::{Item, Row};
 use crate::stop_ids::StopIds;
-use crate::stop_time::StopTime;
-use crate::table::Table;
 use crate::trip_times::TripTimes;
-use std::alloc::{AllocError, Global};
+use std::alloc::Global;
 use std::marker::Model;
 
 /// Stop times by trip, whose stops are numbers of shared ids.
@@ -34,6 +28,19 @@ impl Model for StopTimes {
 }
 
 impl StopTimes {
+    pub fn new(stops: StopIds, times: Grouped<TripTimes>) -> StopTimes
+        ensures { result ≡ (record { stops = stops; times = times }) }
+    {
+        StopTimes { stops, times }
+    }
+
+    /// No stop times.
+    pub fn empty(alloc: Global) -> StopTimes
+        ensures { result ≡ visits.empty }
+    {
+        StopTimes::new(StopIds::new(alloc), Grouped::new(alloc))
+    }
+
     /// The stop times of a trip.
     pub fn get(&self, trip: &str) -> Option<&TripTimes>
         ensures { option_copied result ≡ map.get self.now.times trip.now }
@@ -47,40 +54,5 @@ impl StopTimes {
         ensures { slice_get self.now.stops stop ≡ Some result.now }
     {
         self.stops.text(stop)
-    }
-}
-
-impl Table for StopTimes {
-    ghost use Rattle.timetable.specs.Stops.{visits};
-
-    type Row = Row<Visit>;
-
-    ghost format = { visits };
-
-    fn file() -> File {
-        Visit::file()
-    }
-
-    fn empty(alloc: Global) -> StopTimes {
-        StopTimes {
-            stops: StopIds::new(alloc),
-            times: Grouped::new(alloc),
-        }
-    }
-
-    fn read(alloc: Global, cells: &Cells<'_>) -> Result<Row<Visit>, CellFault> {
-        Visit::read(alloc, cells)
-    }
-
-    fn put(&mut self, alloc: Global, row: Row<Visit>) -> Result<bool, AllocError> {
-        let visit = row.item;
-        let stop = self.stops.number(visit.stop)?;
-        let time = StopTime {
-            sequence: visit.sequence,
-            stop,
-            arrival: visit.arrival,
-            departure: visit.departure,
-        };
-        self.times.put(alloc, row.id, time)
     }
 }

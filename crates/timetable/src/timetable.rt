@@ -20,7 +20,6 @@ use crate::items::{Agency, Frequency, Route, ServiceRow, Stop, Trip};
 use crate::numbered::Numbered;
 use crate::stop_time::StopTime;
 use crate::stop_times::StopTimes;
-use crate::table::Table;
 use crate::twice::trips_that_return;
 use rt_day::Day;
 use rt_outside::Files;
@@ -63,7 +62,7 @@ pub struct Timetable {
 }
 
 /// The tables of the files in the order in which they are read.
-type Loaded = (
+pub(crate) type Loaded = (
     Grouped<Only<Agency>>,
     (
         Grouped<Only<Stop>>,

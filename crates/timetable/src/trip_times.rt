@@ -1,12 +1,10 @@
 //! The stop times of one trip.
 
-ghost use Rattle.std.specs.Prelude.{◌≡◌, IfOk, IfErr, Some, None, All, if◌then◌else◌, option_copied};
+ghost use Rattle.std.specs.Prelude.{◌≡◌, IfOk, IfErr, Some, All, option_copied};
 ghost use Rattle.std.specs.FinMap as map;
 ghost use Rattle.timetable.specs.Times.{AreRising, IsGapFor, StandsAt, keyed};
 
-use crate::grouped::Group;
 use crate::stop_time::StopTime;
-use std::alloc::{AllocError, Global};
 use std::marker::Model;
 
 /// The stop times of a trip, by rising sequence and found by binary search. Contracts see a finite map
@@ -31,12 +29,12 @@ impl Model for TripTimes {
 }
 
 impl TripTimes {
-    fn empty(alloc: Global) -> TripTimes
-        ensures { result ≡ map.empty }
+    /// The trip of these stop times, which stay where they are.
+    pub fn new(times: Vec<StopTime>) -> TripTimes
+        requires { AreRising times.items }
+        ensures { result ≡ map.from_sorted (keyed times.items) }
     {
-        TripTimes {
-            times: Vec::new(alloc),
-        }
+        TripTimes { times }
     }
 
     /// All stop times, by rising sequence.
@@ -58,32 +56,8 @@ impl TripTimes {
     }
 }
 
-impl Group for TripTimes {
-    ghost use Rattle.timetable.specs.Times.{sequences};
-
-    type Item = StopTime;
-
-    ghost grouping = { sequences };
-
-    fn first(alloc: Global, item: StopTime) -> Result<TripTimes, AllocError> {
-        let mut trip = TripTimes::empty(alloc);
-        trip.put(item)?;
-        Ok(trip)
-    }
-
-    fn put(&mut self, item: StopTime) -> Result<bool, AllocError> {
-        match search(self.times.as_slice(), item.sequence) {
-            Ok(_) => Ok(false),
-            Err(at) => {
-                self.times.insert(at, item)?;
-                Ok(true)
-            }
-        }
-    }
-}
-
 /// Where a sequence stands, or where it would go.
-fn search(times: &[StopTime], sequence: u32) -> Result<usize, usize>
+pub(crate) fn search(times: &[StopTime], sequence: u32) -> Result<usize, usize>
     requires { AreRising times.now }
     ensures found { IfOk result (StandsAt times.now sequence) }
     ensures absent { IfErr result (IsGapFor times.now sequence) }

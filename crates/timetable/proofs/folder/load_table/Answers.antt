@@ -1,4 +1,4 @@
-use Rattle.std.proofs.Common.{ap, string_bytes, ◌∙◌}
+use Rattle.std.proofs.Common.{ap, ◌∙◌}
 use Rattle.rt_outside.specs.Store.{contents_told}
 use Rattle.timetable.specs.Folders.{path}
 use Rattle.timetable.proofs.FolderLemmas.{held_answers, no_read_fault}

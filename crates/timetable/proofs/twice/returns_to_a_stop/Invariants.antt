@@ -1,4 +1,4 @@
-use Rattle.std.proofs.Common.{◌≡◌, ◌==◌, ℕ, List, [], drop, map, take, nat_eq}
+use Rattle.std.proofs.Common.{◌≡◌, ◌==◌, ℕ, [], drop, map, take, nat_eq}
 use Rattle.std.specs.HashSet.{contains}
 use Rattle.std.specs.List.{list_any}
 use Rattle.timetable.specs.Timetables.{returns_to}

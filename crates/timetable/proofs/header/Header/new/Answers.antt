@@ -1,4 +1,4 @@
-use Rattle.std.proofs.Common.{◌<◌, ◌≢◌, ℕ, length, arith, ap, below_more, get_or-set_other, get_or-set_same, ◌∙◌}
+use Rattle.std.proofs.Common.{◌<◌, ◌≢◌, length, arith, ap, below_more, get_or-set_other, get_or-set_same, ◌∙◌}
 use Rattle.std.proofs.Math.ListN.{length-set}
 use Rattle.csv.specs.Records.{fields_of}
 use Rattle.timetable.specs.Columns.{name_of, number_of}
