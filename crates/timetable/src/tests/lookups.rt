@@ -85,6 +85,17 @@ fn a_town_answers_its_ids(rt: HostRuntime) -> Result<(), Fail> {
 }
 
 #[test]
+fn columns_may_come_in_any_order(rt: HostRuntime) -> Result<(), Fail> {
+    let rows = b"x,route_id\n,R1\n,R2,extra\n";
+    let table = loaded_with(rt.alloc(), "town/routes.txt", rows)?;
+    assert!(rt; table.has_route("R1"));
+    assert!(rt; table.has_route("R2"));
+    assert!(rt; !table.has_route("extra"));
+    assert!(rt; !table.has_route(""));
+    Ok(())
+}
+
+#[test]
 fn a_town_answers_its_trips(rt: HostRuntime) -> Result<(), Fail> {
     let table = loaded_town(rt.alloc())?;
     for want in &TRIPS {
