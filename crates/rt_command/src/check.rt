@@ -35,10 +35,10 @@ pub fn check<F: Files, S: Sink, E: Sink>(
     requires { length names.now ≡ 1 }
     ensures { CarriesOut (check_report (option_copied folder.entry) moment names.now)
         (IsInput (option_copied folder.entry) names.now)
-        (contents_told (F.told files.old)) (F.asked files.new)
-        (Rose (F.faults files.old) (F.faults files.new))
-        (Rose (S.faults out.old) (S.faults out.new)) (Rose (E.faults err.old) (E.faults err.new))
-        (S.written out.old) (S.written out.new) (E.written err.old) (E.written err.new) result }
+        (contents_told (F.state files.old).told) (F.state files.new).asked
+        (Rose (F.state files.old).faults (F.state files.new).faults)
+        (Rose (S.state out.old).faults (S.state out.new).faults) (Rose (E.state err.old).faults (E.state err.new).faults)
+        (S.state out.old).written (S.state out.new).written (E.state err.old).written (E.state err.new).written result }
 {
     match folder {
         None => check_first(alloc, moment, names, files, out, err),
@@ -63,10 +63,10 @@ fn check_first<F: Files, S: Sink, E: Sink>(
 ) -> Status
     requires { length names.now ≡ 1 }
     ensures { CarriesOut (files_report moment names.now) (Contains names.now)
-        (contents_told (F.told files.old)) (F.asked files.new)
-        (Rose (F.faults files.old) (F.faults files.new))
-        (Rose (S.faults out.old) (S.faults out.new)) (Rose (E.faults err.old) (E.faults err.new))
-        (S.written out.old) (S.written out.new) (E.written err.old) (E.written err.new) result }
+        (contents_told (F.state files.old).told) (F.state files.new).asked
+        (Rose (F.state files.old).faults (F.state files.new).faults)
+        (Rose (S.state out.old).faults (S.state out.new).faults) (Rose (E.state err.old).faults (E.state err.new).faults)
+        (S.state out.old).written (S.state out.new).written (E.state err.old).written (E.state err.new).written result }
 {
     check_file(alloc, moment, names.as_slice()[0].as_str(), files, out, err)
 }
@@ -81,10 +81,10 @@ fn check_file<F: Files, S: Sink, E: Sink>(
     err: &mut E,
 ) -> Status
     ensures { CarriesOut (files_report moment (file.now ∷ [])) (Contains (file.now ∷ []))
-        (contents_told (F.told files.old)) (F.asked files.new)
-        (Rose (F.faults files.old) (F.faults files.new))
-        (Rose (S.faults out.old) (S.faults out.new)) (Rose (E.faults err.old) (E.faults err.new))
-        (S.written out.old) (S.written out.new) (E.written err.old) (E.written err.new) result }
+        (contents_told (F.state files.old).told) (F.state files.new).asked
+        (Rose (F.state files.old).faults (F.state files.new).faults)
+        (Rose (S.state out.old).faults (S.state out.new).faults) (Rose (E.state err.old).faults (E.state err.new).faults)
+        (S.state out.old).written (S.state out.new).written (E.state err.old).written (E.state err.new).written result }
 {
     match write_report(alloc, moment, file, files, out) {
         Ok(status) => status,
@@ -100,16 +100,16 @@ fn write_report<F: Files, S: Sink>(
     files: &mut F,
     out: &mut S,
 ) -> Result<Status, Fault>
-    ensures text { IfSome (contents_told (F.told files.old)) (λ held.
-        AppendsPrefix (S.written out.old) (S.written out.new)
+    ensures text { IfSome (contents_told (F.state files.old).told) (λ held.
+        AppendsPrefix (S.state out.old).written (S.state out.new).written
         (snapshot_report moment (get held file.now)).text) }
-    ensures whole { IfSome (contents_told (F.told files.old)) (λ held. IfOk result (λ status.
+    ensures whole { IfSome (contents_told (F.state files.old).told) (λ held. IfOk result (λ status.
         let report = snapshot_report moment (get held file.now) in (status ≡ report.status)
-        × (S.written out.new ≡ append_known (S.written out.old) report.text))) }
+        × ((S.state out.new).written ≡ append_known (S.state out.old).written report.text))) }
     ensures carried_out { IfOk result IsCarriedOut }
-    ensures asked { IfSome (F.asked files.new) (λ last. last ≡ file.now) }
-    ensures read { IsErrOf result Fault.Read → Rose (F.faults files.old) (F.faults files.new) }
-    ensures write { IsErrOf result Fault.Write → Rose (S.faults out.old) (S.faults out.new) }
+    ensures asked { IfSome (F.state files.new).asked (λ last. last ≡ file.now) }
+    ensures read { IsErrOf result Fault.Read → Rose (F.state files.old).faults (F.state files.new).faults }
+    ensures write { IsErrOf result Fault.Write → Rose (S.state out.old).faults (S.state out.new).faults }
 {
     let judged = judge_file(alloc, moment, files, file)?;
     put_all(out, judged.text.as_bytes())?;

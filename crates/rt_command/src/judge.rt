@@ -32,12 +32,12 @@ pub fn judge_file<F: Files>(
     files: &mut F,
     file: &str,
 ) -> Result<Judged, Fault>
-    ensures judged { IfSome (contents_told (F.told files.old))
+    ensures judged { IfSome (contents_told (F.state files.old).told)
         (λ held. IfOk result (IsJudged (snapshot_report moment (get held file.now)))) }
     ensures carried_out { IfOk result (λ judged. IsCarriedOut judged.status) }
-    ensures asked { IfSome (F.asked files.new) (λ last. last ≡ file.now) }
-    ensures later { F.faults files.old ≤ F.faults files.new }
-    ensures read { IsErrOf result Fault.Read → Rose (F.faults files.old) (F.faults files.new) }
+    ensures asked { IfSome (F.state files.new).asked (λ last. last ≡ file.now) }
+    ensures later { (F.state files.old).faults ≤ (F.state files.new).faults }
+    ensures read { IsErrOf result Fault.Read → Rose (F.state files.old).faults (F.state files.new).faults }
     ensures not_write { IsErrOf result Fault.Write → ⊥ }
 {
     match read_whole(alloc, files, file, SNAPSHOT_LIMIT) {

@@ -12,8 +12,8 @@ use timetable::LoadFault;
 
 /// Tells why the timetable in a folder isn't loaded, and answers it.
 pub fn say_load_fault<E: Sink>(alloc: Global, err: &mut E, folder: &str, fault: LoadFault) -> Status
-    ensures { SaysLoadFault folder.now fault (Rose (E.faults err.old) (E.faults err.new))
-        (E.written err.old) (E.written err.new) result }
+    ensures { SaysLoadFault folder.now fault (Rose (E.state err.old).faults (E.state err.new).faults)
+        (E.state err.old).written (E.state err.new).written result }
 {
     match fault {
         LoadFault::ReadFault(file) => say_read_fault_in(err, folder, file.name()),

@@ -43,32 +43,32 @@ pub fn run<F: Files, S: Sink, E: Sink, D: Ledger, T: Ledger>(
 ) -> Status
     // A prefix of the report's text was written to the output, and all of it where the answer is
     // one that a report may have.
-    ensures text { IfSome (contents_told (F.told files.old)) (λ held.
-        AppendsPrefix (S.written out.old) (S.written out.new)
+    ensures text { IfSome (contents_told (F.state files.old).told) (λ held.
+        AppendsPrefix (S.state out.old).written (S.state out.new).written
         (report (map string_bytes words.now) now held).text) }
-    ensures whole { IsReported result → IfSome (contents_told (F.told files.old)) (λ held.
-        S.written out.new ≡ append_known (S.written out.old)
+    ensures whole { IsReported result → IfSome (contents_told (F.state files.old).told) (λ held.
+        (S.state out.new).written ≡ append_known (S.state out.old).written
         (report (map string_bytes words.now) now held).text) }
 
     // That answer is then the report's, and so is what was written to the error stream. The words
     // give no request exactly where the answer is Usage, but for want of memory and a failed write.
-    ensures status { IsReported result → IfSome (contents_told (F.told files.old)) (λ held.
+    ensures status { IsReported result → IfSome (contents_told (F.state files.old).told) (λ held.
         result ≡ (report (map string_bytes words.now) now held).status) }
-    ensures errors { IsReported result → IfSome (contents_told (F.told files.old)) (λ held.
-        E.written err.new ≡ append_known (E.written err.old)
+    ensures errors { IsReported result → IfSome (contents_told (F.state files.old).told) (λ held.
+        (E.state err.new).written ≡ append_known (E.state err.old).written
         (report (map string_bytes words.now) now held).errors) }
     ensures usage { result ≡ Status.Usage → request (map string_bytes words.now) ≡ None }
     ensures no_request { request (map string_bytes words.now) ≡ None → IsWithoutRequest result }
 
     // A fault comes only where a count of faults shows it.
     ensures read_fault { result ≡ Status.ReadFault
-        → Rose (F.faults files.old) (F.faults files.new) }
+        → Rose (F.state files.old).faults (F.state files.new).faults }
     ensures write_fault { result ≡ Status.WriteFault
-        → Rose (S.faults out.old) (S.faults out.new) ⊎ Rose (E.faults err.old) (E.faults err.new) }
+        → Rose (S.state out.old).faults (S.state out.new).faults ⊎ Rose (E.state err.old).faults (E.state err.new).faults }
 
     // Each fault is told on the error stream.
-    ensures told { TellsFault (Reads (request (map string_bytes words.now))) (F.asked files.new)
-        (Rose (E.faults err.old) (E.faults err.new)) (E.written err.old) (E.written err.new) result }
+    ensures told { TellsFault (Reads (request (map string_bytes words.now))) (F.state files.new).asked
+        (Rose (E.state err.old).faults (E.state err.new).faults) (E.state err.old).written (E.state err.new).written result }
 {
     match words_of(alloc, words) {
         Err(_) => say_memory(err),
@@ -88,10 +88,10 @@ fn carry_out<F: Files, S: Sink, E: Sink>(
 ) -> Status
     requires { length (files_of request.now) ≡ 1 }
     ensures { CarriesOut (asked_report request.now now) (Reads (Some request.now))
-        (contents_told (F.told files.old)) (F.asked files.new)
-        (Rose (F.faults files.old) (F.faults files.new))
-        (Rose (S.faults out.old) (S.faults out.new)) (Rose (E.faults err.old) (E.faults err.new))
-        (S.written out.old) (S.written out.new) (E.written err.old) (E.written err.new) result }
+        (contents_told (F.state files.old).told) (F.state files.new).asked
+        (Rose (F.state files.old).faults (F.state files.new).faults)
+        (Rose (S.state out.old).faults (S.state out.new).faults) (Rose (E.state err.old).faults (E.state err.new).faults)
+        (S.state out.old).written (S.state out.new).written (E.state err.old).written (E.state err.new).written result }
 {
     check(
         alloc,

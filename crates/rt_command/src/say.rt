@@ -11,8 +11,8 @@ use rt_outside::{Failed, Sink, put_all};
 
 /// Writes a text, and answers what it means, or `WriteFault` where a put fails.
 pub fn say<E: Sink>(err: &mut E, text: &[u8], meant: Status) -> Status
-    ensures { Says text.now meant (Rose (E.faults err.old) (E.faults err.new))
-        (E.written err.old) (E.written err.new) result }
+    ensures { Says text.now meant (Rose (E.state err.old).faults (E.state err.new).faults)
+        (E.state err.old).written (E.state err.new).written result }
 {
     match put_all(err, text) {
         Ok(()) => meant,
@@ -22,16 +22,16 @@ pub fn say<E: Sink>(err: &mut E, text: &[u8], meant: Status) -> Status
 
 /// Tells that no memory was found, and answers so, or `WriteFault` where a put fails.
 pub fn say_memory<E: Sink>(err: &mut E) -> Status
-    ensures { Says memory_text Status.Memory (Rose (E.faults err.old) (E.faults err.new))
-        (E.written err.old) (E.written err.new) result }
+    ensures { Says memory_text Status.Memory (Rose (E.state err.old).faults (E.state err.new).faults)
+        (E.state err.old).written (E.state err.new).written result }
 {
     say(err, b"out of memory\n", Status::Memory)
 }
 
 /// Tells a fault, and answers it. A read fault is that of `file`.
 pub fn say_fault<E: Sink>(err: &mut E, fault: Fault, file: &str) -> Status
-    ensures { SaysFault fault file.now (Rose (E.faults err.old) (E.faults err.new))
-        (E.written err.old) (E.written err.new) result }
+    ensures { SaysFault fault file.now (Rose (E.state err.old).faults (E.state err.new).faults)
+        (E.state err.old).written (E.state err.new).written result }
 {
     match fault {
         Fault::Read => say_read_fault(err, file),
@@ -43,7 +43,7 @@ pub fn say_fault<E: Sink>(err: &mut E, fault: Fault, file: &str) -> Status
 // Writes that the file of this name couldn't be read. It takes no memory for the text.
 fn say_read_fault<E: Sink>(err: &mut E, name: &str) -> Status
     ensures { Says (read_fault_text name.now) Status.ReadFault
-        (Rose (E.faults err.old) (E.faults err.new)) (E.written err.old) (E.written err.new) result }
+        (Rose (E.state err.old).faults (E.state err.new).faults) (E.state err.old).written (E.state err.new).written result }
 {
     match put_three(err, b"read fault: ", name.as_bytes(), b"\n") {
         Ok(()) => Status::ReadFault,
@@ -55,7 +55,7 @@ fn say_read_fault<E: Sink>(err: &mut E, name: &str) -> Status
 /// fails. It takes no memory for the text.
 pub fn say_read_fault_in<E: Sink>(err: &mut E, folder: &str, file: &str) -> Status
     ensures { Says (read_fault_text (folder.now ++ 47 ∷ file.now)) Status.ReadFault
-        (Rose (E.faults err.old) (E.faults err.new)) (E.written err.old) (E.written err.new) result }
+        (Rose (E.state err.old).faults (E.state err.new).faults) (E.state err.old).written (E.state err.new).written result }
 {
     match put_read_fault_in(err, folder.as_bytes(), file.as_bytes()) {
         Ok(()) => Status::ReadFault,
@@ -65,11 +65,11 @@ pub fn say_read_fault_in<E: Sink>(err: &mut E, folder: &str, file: &str) -> Stat
 
 // Writes the text of a read fault, whose name is that of a file in a folder.
 fn put_read_fault_in<E: Sink>(err: &mut E, folder: &[u8], file: &[u8]) -> Result<(), Failed>
-    ensures ok { OnOk result (E.written err.new
-        ≡ append_known (E.written err.old) (read_fault_text (folder.now ++ 47 ∷ file.now))) }
-    ensures err { OnErr result (AppendsPrefix (E.written err.old) (E.written err.new)
+    ensures ok { OnOk result ((E.state err.new).written
+        ≡ append_known (E.state err.old).written (read_fault_text (folder.now ++ 47 ∷ file.now))) }
+    ensures err { OnErr result (AppendsPrefix (E.state err.old).written (E.state err.new).written
         (read_fault_text (folder.now ++ 47 ∷ file.now))) }
-    ensures cause { HasCause (E.faults err.old) (E.faults err.new) result }
+    ensures cause { HasCause (E.state err.old).faults (E.state err.new).faults result }
 {
     put_three(err, b"read fault: ", folder, b"/")?;
     put_two(err, file, b"\n")
@@ -78,10 +78,10 @@ fn put_read_fault_in<E: Sink>(err: &mut E, folder: &[u8], file: &[u8]) -> Result
 // Writes two pieces.
 fn put_two<E: Sink>(err: &mut E, first: &[u8], second: &[u8]) -> Result<(), Failed>
     ensures ok { OnOk result
-        (E.written err.new ≡ append_known (E.written err.old) (first.now ++ second.now)) }
+        ((E.state err.new).written ≡ append_known (E.state err.old).written (first.now ++ second.now)) }
     ensures err { OnErr result
-        (AppendsPrefix (E.written err.old) (E.written err.new) (first.now ++ second.now)) }
-    ensures cause { HasCause (E.faults err.old) (E.faults err.new) result }
+        (AppendsPrefix (E.state err.old).written (E.state err.new).written (first.now ++ second.now)) }
+    ensures cause { HasCause (E.state err.old).faults (E.state err.new).faults result }
 {
     put_all(err, first)?;
     put_all(err, second)
@@ -89,11 +89,11 @@ fn put_two<E: Sink>(err: &mut E, first: &[u8], second: &[u8]) -> Result<(), Fail
 
 // Writes three pieces.
 fn put_three<E: Sink>(err: &mut E, first: &[u8], second: &[u8], third: &[u8]) -> Result<(), Failed>
-    ensures ok { OnOk result (E.written err.new
-        ≡ append_known (E.written err.old) (first.now ++ second.now ++ third.now)) }
-    ensures err { OnErr result (AppendsPrefix (E.written err.old) (E.written err.new)
+    ensures ok { OnOk result ((E.state err.new).written
+        ≡ append_known (E.state err.old).written (first.now ++ second.now ++ third.now)) }
+    ensures err { OnErr result (AppendsPrefix (E.state err.old).written (E.state err.new).written
         (first.now ++ second.now ++ third.now)) }
-    ensures cause { HasCause (E.faults err.old) (E.faults err.new) result }
+    ensures cause { HasCause (E.state err.old).faults (E.state err.new).faults result }
 {
     put_two(err, first, second)?;
     put_all(err, third)

@@ -278,11 +278,7 @@ struct Drip<'a> {
 impl Files for Drip<'_> {
     ghost use Rattle.std.specs.Prelude.{None};
 
-    ghost told = { λ _. None };
-
-    ghost asked = { λ _. None };
-
-    ghost faults = { λ _. 0 };
+    ghost state = { λ _. record { told = None; asked = None; faults = 0 } };
 
     fn open_file(&mut self, _name: &str) -> Opening {
         Opening::Opened

@@ -45,15 +45,15 @@ pub(crate) trait Source: Sized {
         folder: &str,
         limit: usize,
     ) -> Result<Self, LoadFault>
-        ensures tables { IfSome (contents_told (F.told files.old))
+        ensures tables { IfSome (contents_told (F.state files.old).told)
             (λ contents. Answers (tables limit folder.now contents) result) }
         ensures read { IfOk result read }
-        ensures contents { contents_told (F.told files.new) ≡ contents_told (F.told files.old) }
-        ensures later { F.faults files.old ≤ F.faults files.new }
+        ensures contents { contents_told (F.state files.new).told ≡ contents_told (F.state files.old).told }
+        ensures later { (F.state files.old).faults ≤ (F.state files.new).faults }
         ensures cause { (file : File) → result ≡ Err (fault.ReadFault file)
-            → Rose (F.faults files.old) (F.faults files.new) }
+            → Rose (F.state files.old).faults (F.state files.new).faults }
         ensures asked { (file : File) → result ≡ Err (fault.ReadFault file)
-            → IfSome (F.asked files.new) (λ last. last ≡ path folder.now file) };
+            → IfSome (F.state files.new).asked (λ last. last ≡ path folder.now file) };
 }
 
 impl<G: Group + Drop> Source for Grouped<G>
@@ -122,15 +122,15 @@ pub(crate) fn load_table<F: Files, T: Table + Drop>(
     folder: &str,
     limit: usize,
 ) -> Result<T, LoadFault>
-    ensures table { IfSome (contents_told (F.told files.old))
+    ensures table { IfSome (contents_told (F.state files.old).told)
         (λ contents. Answers (table_of_file T.format limit folder.now contents) result) }
     ensures read { IfOk result (IsRead T.format) }
-    ensures contents { contents_told (F.told files.new) ≡ contents_told (F.told files.old) }
-    ensures later { F.faults files.old ≤ F.faults files.new }
+    ensures contents { contents_told (F.state files.new).told ≡ contents_told (F.state files.old).told }
+    ensures later { (F.state files.old).faults ≤ (F.state files.new).faults }
     ensures cause { (file : File) → result ≡ Err (fault.ReadFault file)
-        → Rose (F.faults files.old) (F.faults files.new) }
+        → Rose (F.state files.old).faults (F.state files.new).faults }
     ensures asked { (file : File) → result ≡ Err (fault.ReadFault file)
-        → IfSome (F.asked files.new) (λ last. last ≡ path folder.now file) }
+        → IfSome (F.state files.new).asked (λ last. last ≡ path folder.now file) }
 {
     let name = path(alloc, folder, T::file())?;
     match read_whole(alloc, files, name.as_str(), limit) {

@@ -117,16 +117,16 @@ impl Timetable {
         folder: &str,
     ) -> Result<Timetable, LoadFault>
         ensures present { IfOk result (λ timetable. is_present timetable ≡ true) }
-        ensures ok { IfOk result (λ timetable. IfSome (contents_told (F.told files.old))
+        ensures ok { IfOk result (λ timetable. IfSome (contents_told (F.state files.old).told)
             (λ contents. tables_of folder.now contents ≡ Ok (tables_in timetable))) }
         ensures err { IfErr result (λ e. e ≢ fault.Memory → ((file : File) → e ≢ fault.ReadFault file)
-            → IfSome (contents_told (F.told files.old)) (λ contents. tables_of folder.now contents ≡ Err e)) }
-        ensures contents { contents_told (F.told files.new) ≡ contents_told (F.told files.old) }
-        ensures later { F.faults files.old ≤ F.faults files.new }
+            → IfSome (contents_told (F.state files.old).told) (λ contents. tables_of folder.now contents ≡ Err e)) }
+        ensures contents { contents_told (F.state files.new).told ≡ contents_told (F.state files.old).told }
+        ensures later { (F.state files.old).faults ≤ (F.state files.new).faults }
         ensures cause { (file : File) → result ≡ Err (fault.ReadFault file)
-            → Rose (F.faults files.old) (F.faults files.new) }
+            → Rose (F.state files.old).faults (F.state files.new).faults }
         ensures asked { (file : File) → result ≡ Err (fault.ReadFault file)
-            → IfSome (F.asked files.new) (λ last. last ≡ path folder.now file) }
+            → IfSome (F.state files.new).asked (λ last. last ≡ path folder.now file) }
     {
         let loaded = Loaded::load(alloc, files, folder, LIMIT)?;
         Ok(Timetable::with_tables(alloc, loaded)?)

@@ -20,23 +20,23 @@ returns-in-Ok-None-clause-told g c = tells _ _ _ _ _ _ answer.Usage c.say.result
 
 pub returns-in-Ok-Some-clause-text : goal.returns-in-Ok-Some-clause-text
 returns-in-Ok-Some-clause-text g c =
-    report_told (λ r. AppendsPrefix (g.S.Sink.written c.args.out.now) (g.S.Sink.written c.carry_out.new.out) r.text) _ _ _ _
+    report_told (λ r. AppendsPrefix (g.S.Sink.state c.args.out.now).written (g.S.Sink.state c.carry_out.new.out).written r.text) _ _ _ _
     (rw c.in-Ok-Some.field-0-is at c.in-Ok-Some.ensures) c.carry_out.ensures.text
 
 pub returns-in-Ok-Some-clause-whole : goal.returns-in-Ok-Some-clause-whole
 returns-in-Ok-Some-clause-whole g c reported =
-    report_told (λ r. g.S.Sink.written c.carry_out.new.out ≡ append_known (g.S.Sink.written c.args.out.now) r.text) _ _ _ _
+    report_told (λ r. (g.S.Sink.state c.carry_out.new.out).written ≡ append_known (g.S.Sink.state c.args.out.now).written r.text) _ _ _ _
     (rw c.in-Ok-Some.field-0-is at c.in-Ok-Some.ensures) (c.carry_out.ensures.whole reported)
 
 pub returns-in-Ok-Some-clause-errors : goal.returns-in-Ok-Some-clause-errors
 returns-in-Ok-Some-clause-errors g c reported =
-    report_told (λ r. g.E.Sink.written c.carry_out.new.err ≡ append_known (g.E.Sink.written c.args.err.now) r.errors) _ _ _ _
+    report_told (λ r. (g.E.Sink.state c.carry_out.new.err).written ≡ append_known (g.E.Sink.state c.args.err.now).written r.errors) _ _ _ _
     (rw c.in-Ok-Some.field-0-is at c.in-Ok-Some.ensures) (c.carry_out.ensures.errors reported)
 
 pub returns-in-Ok-Some-clause-told : goal.returns-in-Ok-Some-clause-told
 returns-in-Ok-Some-clause-told g c =
-    subst (λ asked. TellsFault (Reads asked) (g.F.Files.asked c.carry_out.new.files)
-    (Rose (g.E.Sink.faults c.args.err.now) (g.E.Sink.faults c.carry_out.new.err)) (g.E.Sink.written c.args.err.now) (g.E.Sink.written c.carry_out.new.err) c.carry_out.result)
+    subst (λ asked. TellsFault (Reads asked) (g.F.Files.state c.carry_out.new.files).asked
+    (Rose (g.E.Sink.state c.args.err.now).faults (g.E.Sink.state c.carry_out.new.err).faults) (g.E.Sink.state c.args.err.now).written (g.E.Sink.state c.carry_out.new.err).written c.carry_out.result)
     (rw c.in-Ok-Some.field-0-is at c.in-Ok-Some.ensures) c.carry_out.ensures.told
 
 pub carry_out-requires : goal.carry_out-requires

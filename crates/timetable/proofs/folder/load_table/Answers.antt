@@ -13,6 +13,6 @@ returns-in-Ok-clause-asked g c = λ file is. absurd (no_read_fault g.T.Table.for
 pub returns-in-Ok-clause-table : goal.returns-in-Ok-clause-table
 returns-in-Ok-clause-table g c =
     let bytes = c.as_slice.ensures.value in
-    held_answers g.T.Table.format c.args.limit c.args.folder.now c.as_str.result.now c.in-Ok.bytes.items c.read_table.result (contents_told (g.F.Files.told c.args.files.now))
+    held_answers g.T.Table.format c.args.limit c.args.folder.now c.as_str.result.now c.in-Ok.bytes.items c.read_table.result (contents_told (g.F.Files.state c.args.files.now).told)
     (c.as_str.ensures.value ∙ c.in_ok-name.ensures ∙ ap (path c.args.folder.now) c.file.ensures)
     c.in-Ok.ensures.whole (rw bytes at c.read_table.ensures.ok) (rw bytes at c.read_table.ensures.err)

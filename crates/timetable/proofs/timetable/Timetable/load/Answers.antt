@@ -9,6 +9,6 @@ with_tables-requires g c = stops_of_read c.in_ok-loaded.loaded.1.1.1.1.0 c.in_ok
 
 pub returns-clause-ok : goal.returns-clause-ok
 returns-clause-ok g c =
-    let told = contents_told (g.F.Files.told c.args.files.now) in
+    let told = contents_told (g.F.Files.state c.args.files.now).told in
     subst (λ tables. IfSome told (λ contents. tables_of c.args.folder.now contents ≡ Ok tables)) c.in_ok-with_tables.ensures.tables
     (tables_of_loaded c.args.folder.now c.in_ok-loaded.loaded told c.in_ok-loaded.ensures.tables)
