@@ -9,16 +9,16 @@ use Rattle.std.specs.Result.{result_ok}
 use Rattle.std.specs.Str.Parse.{ParsesUnsigned, digits_value}
 use Rattle.rt_day.specs.Digits.{is_digits}
 
-decimal : IsNumeralModel (λ ds. list_all is_ascii_digit ds ≡ true) (digits_value 10)
+pub decimal : IsNumeralModel (λ ds. list_all is_ascii_digit ds ≡ true) (digits_value 10)
 decimal = numerals_by_value _ (search rules)
 
 -- the three parts of the test
-record AreDigits (least most : ℕ) (text : List ℕ) : Type 0 where
-  enough : least ≤ length text
-  few : length text ≤ most
-  digits : list_all is_ascii_digit text ≡ true
+pub record AreDigits (least most : ℕ) (text : List ℕ) : Type 0 where
+  pub enough : least ≤ length text
+  pub few : length text ≤ most
+  pub digits : list_all is_ascii_digit text ≡ true
 
-parts : (least most : ℕ) (text : List ℕ) → is_digits least most text ≡ true → AreDigits least most text
+pub parts : (least most : ℕ) (text : List ℕ) → is_digits least most text ≡ true → AreDigits least most text
 parts least most text h = by (nat_le least (length text)) (nat_le (length text) most) refl refl h
   where
     by : (a b : Bool) → nat_le least (length text) ≡ a → nat_le (length text) most ≡ b → a && b && list_all is_ascii_digit text ≡ true → AreDigits least most text

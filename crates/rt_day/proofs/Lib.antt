@@ -1,2 +1,4 @@
 pub mod DateLemmas
 pub mod DigitLemmas
+pub mod SpellingLemmas
+pub mod DateSpellingLemmas

@@ -1,3 +1,4 @@
 pub mod Digits
 pub mod Time
 pub mod Date
+pub mod Laws

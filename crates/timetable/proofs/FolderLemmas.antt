@@ -5,7 +5,7 @@ use Rattle.std.specs.FinMap.{get}
 use Rattle.rt_outside.specs.Store.{Contents}
 use Rattle.timetable.specs.Cells.{cells_of, ok_or, then_with}
 use Rattle.timetable.specs.Folders.{Answers, held_table, path, table_of_file}
-use Rattle.timetable.specs.Rows.{Record, records_of}
+use Rattle.timetable.specs.Records.{Record, records_of}
 use Rattle.timetable.specs.Tables.{Format, missing_column, row_at, rows_from, table_in, table_of_records, table_under, unless_missing, without_mark}
 use Rattle.timetable.specs.declared.column.Column.{Column}
 use Rattle.timetable.specs.declared.fault.CellFault.{CellFault}

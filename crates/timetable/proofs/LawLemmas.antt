@@ -3,7 +3,7 @@ use Rattle.std.proofs.Common.{◌≡◌, ℕ, ◌+◌, ◌++◌, ◌⊎◌, inl,
 use Rattle.std.proofs.lemmas.List.{append-nil}
 use Rattle.timetable.specs.Cells.{cells_of, ok_or, then_with}
 use Rattle.timetable.specs.Laws.{FailsAtRow, FollowsRows, HasBadCell, IsAccepted, KeysDiffer, LacksColumn, RepeatsKey}
-use Rattle.timetable.specs.Rows.{Record}
+use Rattle.timetable.specs.Records.{Record}
 use Rattle.timetable.specs.Tables.{Format, missing_column, row_at, rows_from, unless_missing}
 use Rattle.timetable.specs.declared.column.Column.{Column}
 use Rattle.timetable.specs.declared.fault.CellFault.{CellFault}

@@ -7,7 +7,7 @@ use Rattle.csv.specs.declared.parser.Action.{Action}
 use Rattle.csv.specs.declared.parser.Action.TheVariants as act
 use Rattle.csv.specs.declared.parser.State.{State}
 use Rattle.csv.specs.declared.parser.State.TheVariants as st
-use Rattle.timetable.specs.Rows.{left_from, records_of}
+use Rattle.timetable.specs.Records.{left_from, records_of}
 
 -- where a byte ends a record, the state after it ends none at the text's end
 abbrev EndsBetween : State × Action → Type 0

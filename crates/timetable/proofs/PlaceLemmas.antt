@@ -3,7 +3,7 @@ use Rattle.std.proofs.Common.{◌≡◌, ◌<◌, ◌+◌, ℕ, zero, suc, List,
 use Rattle.std.specs.Str.{bytes_eq}
 use Rattle.std.specs.List.{position_from}
 use Rattle.csv.specs.Records.{field_at}
-use Rattle.timetable.specs.Rows.{Record}
+use Rattle.timetable.specs.Records.{Record}
 use Rattle.timetable.specs.Fields.{field_in, is_named}
 
 drop_field : (fs : Record) (i : ℕ) → i < length fs → drop i fs ≡ unwrap_or (field_at fs i) [] ∷ drop (suc i) fs

@@ -17,7 +17,7 @@ use Rattle.timetable.specs.Maps.{Text}
 use Rattle.timetable.specs.Stops.{HoldsVisits, StopTable, stop_time_at, visit_of}
 use Rattle.timetable.specs.Times.{BySequence}
 use Rattle.timetable.specs.Timetables.{StopsTwice, returns_to, trip_times, visits_twice}
-use Rattle.timetable.specs.declared.items.Visit.{Visit}
+use Rattle.timetable.specs.declared.visit.Visit.{Visit}
 use Rattle.timetable.specs.declared.row.Row.{Row}
 use Rattle.timetable.specs.declared.stop_time.StopTime.{StopTime}
 use Rattle.timetable.proofs.KeyedLemmas.{one_key}

@@ -6,9 +6,9 @@ use Rattle.csv.specs.Reading.{FlexibleStep, ReadRecord, Reached, RowStep, defaul
 use Rattle.csv.specs.declared.parser.State.{State}
 use Rattle.csv.specs.declared.iter.ByteRecordsIntoIter.{ByteRecordsIntoIter}
 use Rattle.csv.proofs.ReadFacts.{rows-end, rows-more}
-use Rattle.timetable.specs.Rows.{Record, left_from}
-use Rattle.timetable.specs.Reading.{IsReading, SliceReader, reader_of, rows_view, unread}
-use Rattle.timetable.specs.declared.rows.Rows.TheInside.{Inside}
+use Rattle.timetable.specs.Records.{Record, left_from}
+use Rattle.timetable.specs.Reading.{IsReading, SliceReader, reader_of, records_view, unread}
+use Rattle.timetable.specs.declared.records.Records.TheInside.{Inside}
 use Rattle.timetable.proofs.Left.{left-none, left-some, next_leaves}
 
 abbrev Bytes : Bor (List ℕ) → Option (List ℕ)
@@ -64,13 +64,13 @@ reads_on r after row old step kept =
 
 -- the row was the first of those that were left
 pub row_was_first : (r : Inside) (after : ByteRecordsIntoIter (Bor (List ℕ))) (row : Row) → r.ended ≡ false → IsReading r → RowStep Bytes r.records.rdr after.rdr after.left (Some (Ok row))
-    → rows_view r ≡ fields_of row ∷ rows_view (moved r after)
+    → records_view r ≡ fields_of row ∷ records_view (moved r after)
 row_was_first r after row going old step =
     let t = took_row r after row old step in
     rw (going, t.known) t.left
 
 -- where there was no row, none was left
 pub none_was_left : (r : Inside) (after : ByteRecordsIntoIter (Bor (List ℕ))) → r.ended ≡ false → IsReading r → RowStep Bytes r.records.rdr after.rdr after.left None
-    → rows_view r ≡ []
+    → records_view r ≡ []
 none_was_left r after going old step =
     rw going (left-none _ _ (rows-end Bytes r.records.rdr after.rdr [] default_config (unwrap_or (unread (reader_of r)) []) old.plain old.known step))

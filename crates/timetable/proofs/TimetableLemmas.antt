@@ -9,13 +9,13 @@ use Rattle.timetable.specs.Laws.{FollowsRows}
 use Rattle.timetable.specs.Maps.{Text}
 use Rattle.timetable.specs.Lookups.{IsServiceOf, trip_row}
 use Rattle.timetable.specs.Numbers.{HasNumber}
-use Rattle.timetable.specs.Rows.{Record, records_of}
+use Rattle.timetable.specs.Records.{Record, records_of}
 use Rattle.timetable.specs.Stops.{HaveStops, HoldsVisits, StopTable, visit_key, visits}
 use Rattle.timetable.specs.Tables.{table_in, table_of_records, without_mark}
 use Rattle.timetable.specs.Times.{BySequence, keyed}
 use Rattle.timetable.specs.Timetables.{KnowsTwice, Loaded, loaded_from, tables_from, tables_of, trip_times}
-use Rattle.timetable.specs.declared.items.Trip.{Trip}
-use Rattle.timetable.specs.declared.items.Visit.{Visit}
+use Rattle.timetable.specs.declared.trip.Trip.{Trip}
+use Rattle.timetable.specs.declared.visit.Visit.{Visit}
 use Rattle.timetable.specs.declared.row.Row.{Row}
 use Rattle.timetable.specs.declared.stop_time.StopTime.{StopTime}
 use Rattle.timetable.specs.declared.timetable.ServiceNo.{ServiceNo}

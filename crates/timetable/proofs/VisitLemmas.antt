@@ -15,7 +15,7 @@ use Rattle.timetable.specs.Maps.{ByText, Text, text_cmp}
 use Rattle.timetable.specs.Stops.{HaveStops, HoldsVisits, StopTable, ids_with, number_in, stop_time_at, stop_time_of, visit_key, visit_of, visits}
 use Rattle.timetable.specs.Times.{BySequence, sequences}
 use Rattle.timetable.specs.declared.fault.CellFault.TheVariants.{NotText}
-use Rattle.timetable.specs.declared.items.Visit.{Visit}
+use Rattle.timetable.specs.declared.visit.Visit.{Visit}
 use Rattle.timetable.specs.declared.row.Row.{Row}
 use Rattle.timetable.specs.declared.stop_time.StopTime.{StopTime}
 use Rattle.timetable.proofs.KeyLemmas.{KeepsItems, KeepsKeys, find-alike, keyed_by_id, one_text, or_none}

@@ -1,7 +1,7 @@
 -- The cells of a row: what stands in each column.
 use Rattle.std.specs.Prelude.{ℕ, List, [], Option, Some, None, option_map, Result, Ok, Err, if◌then◌else◌}
 use Rattle.std.specs.Str.{bytes_eq}
-use Rattle.timetable.specs.Rows.{Record}
+use Rattle.timetable.specs.Records.{Record}
 use Rattle.timetable.specs.Columns.{name_of}
 use Rattle.timetable.specs.Fields.{field_in, place_of, text_of}
 use Rattle.timetable.specs.declared.column.Column.{Column}

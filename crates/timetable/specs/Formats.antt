@@ -12,13 +12,13 @@ use Rattle.timetable.specs.declared.fault.CellFault.{CellFault}
 use Rattle.timetable.specs.declared.file.File.{File}
 use Rattle.timetable.specs.declared.file.File.TheVariants as file
 use Rattle.timetable.specs.declared.grouped.Only.{Only}
-use Rattle.timetable.specs.declared.items.Agency.{Agency}
-use Rattle.timetable.specs.declared.items.Exception.{Exception}
-use Rattle.timetable.specs.declared.items.Frequency.{Frequency}
-use Rattle.timetable.specs.declared.items.Route.{Route}
-use Rattle.timetable.specs.declared.items.ServiceRow.{ServiceRow}
-use Rattle.timetable.specs.declared.items.Stop.{Stop}
-use Rattle.timetable.specs.declared.items.Trip.{Trip}
+use Rattle.timetable.specs.declared.agency.Agency.{Agency}
+use Rattle.timetable.specs.declared.exception.Exception.{Exception}
+use Rattle.timetable.specs.declared.frequency.Frequency.{Frequency}
+use Rattle.timetable.specs.declared.route.Route.{Route}
+use Rattle.timetable.specs.declared.service_row.ServiceRow.{ServiceRow}
+use Rattle.timetable.specs.declared.stop.Stop.{Stop}
+use Rattle.timetable.specs.declared.trip.Trip.{Trip}
 use Rattle.timetable.specs.declared.row.Row.{Row}
 
 -- a file whose rows are put under their ids

@@ -4,7 +4,7 @@ use Rattle.std.specs.FinMap.{FinMap, empty, from_entries, get, insert}
 use Rattle.std.specs.Ordering.{int_cmp}
 use Rattle.rt_day.specs.declared.day.Day.{Day}
 use Rattle.timetable.specs.Maps.{Grouping}
-use Rattle.timetable.specs.declared.items.Exception.{Exception}
+use Rattle.timetable.specs.declared.exception.Exception.{Exception}
 
 -- whether a day is added, by the day's number
 abbrev pub ByDay : Type 0

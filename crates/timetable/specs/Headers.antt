@@ -1,6 +1,6 @@
 -- Where the columns stand.
 use Rattle.std.specs.Prelude.{◌≡◌, ℕ, List, Option, None, slice_index_or}
-use Rattle.timetable.specs.Rows.{Record}
+use Rattle.timetable.specs.Records.{Record}
 use Rattle.timetable.specs.Columns.{name_of, number_of}
 use Rattle.timetable.specs.Fields.{place_of}
 use Rattle.timetable.specs.declared.column.Column.{Column}

@@ -4,20 +4,19 @@ use Rattle.timetable.specs.Cells.{Cells, any_text, cell, filled, optional, then_
 use Rattle.timetable.specs.Values.{calendar_day, change_of, clock_time, flag_of, headway_of, location_type_of, sequence_of}
 use Rattle.timetable.specs.declared.column.Column.{Column}
 use Rattle.timetable.specs.declared.column.Column.TheVariants as col
-use Rattle.timetable.specs.declared.column.TheConstants.Column.{WEEKDAYS}
 use Rattle.timetable.specs.declared.fault.CellFault.{CellFault}
-use Rattle.timetable.specs.declared.items.Agency.{Agency}
-use Rattle.timetable.specs.declared.items.Exception.{Exception}
-use Rattle.timetable.specs.declared.items.Frequency.{Frequency}
-use Rattle.timetable.specs.declared.items.Route.{Route}
-use Rattle.timetable.specs.declared.items.ServiceRow.{ServiceRow}
-use Rattle.timetable.specs.declared.items.Stop.{Stop}
-use Rattle.timetable.specs.declared.items.Trip.{Trip}
-use Rattle.timetable.specs.declared.items.Visit.{Visit}
+use Rattle.timetable.specs.declared.agency.Agency.{Agency}
+use Rattle.timetable.specs.declared.exception.Exception.{Exception}
+use Rattle.timetable.specs.declared.frequency.Frequency.{Frequency}
+use Rattle.timetable.specs.declared.route.Route.{Route}
+use Rattle.timetable.specs.declared.service_row.ServiceRow.{ServiceRow}
+use Rattle.timetable.specs.declared.stop.Stop.{Stop}
+use Rattle.timetable.specs.declared.trip.Trip.{Trip}
+use Rattle.timetable.specs.declared.visit.Visit.{Visit}
 use Rattle.timetable.specs.declared.row.Row.{Row}
-use Rattle.timetable.specs.declared.values.Flag.{Flag}
-use Rattle.timetable.specs.declared.values.LocationType.{LocationType}
-use Rattle.timetable.specs.declared.values.Time.{Time}
+use Rattle.timetable.specs.declared.flag.Flag.{Flag}
+use Rattle.timetable.specs.declared.location_type.LocationType.{LocationType}
+use Rattle.timetable.specs.declared.time.Time.{Time}
 
 -- agency.txt: the id may be blank
 abbrev pub agency_row : Cells → Result (Row Agency) CellFault
@@ -81,14 +80,18 @@ weekdays_from [] bit done cells = Ok done
 weekdays_from (day ∷ days) bit done cells =
     then_with (cell flag_of day cells) (λ runs. weekdays_from days (bit * 2) (with_bit done bit runs.0) cells)
 
+-- the columns of the weekdays in the order of the week, so that Monday is bit 0 and Sunday bit 6
+abbrev pub weekdays : List Column
+weekdays = col.Monday ∷ col.Tuesday ∷ col.Wednesday ∷ col.Thursday ∷ col.Friday ∷ col.Saturday ∷ col.Sunday ∷ []
+
 -- calendar.txt
 abbrev pub service_row : Cells → Result (Row ServiceRow) CellFault
 service_row cells =
     then_with (cell filled col.ServiceId cells) (λ id.
-    then_with (weekdays_from WEEKDAYS 1 0 cells) (λ weekdays.
+    then_with (weekdays_from weekdays 1 0 cells) (λ days.
     then_with (cell calendar_day col.StartDate cells) (λ first.
     then_with (cell calendar_day col.EndDate cells) (λ last.
-    Ok (record { id = id; item = record { weekdays = weekdays; first = first; last = last } })))))
+    Ok (record { id = id; item = record { weekdays = days; first = first; last = last } })))))
 
 -- calendar_dates.txt: the service id may be blank
 abbrev pub exception_row : Cells → Result (Row Exception) CellFault

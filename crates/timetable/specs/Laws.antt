@@ -5,7 +5,7 @@ use Rattle.std.specs.FinMap.{get}
 use Rattle.std.specs.Str.{bytes_eq}
 use Rattle.timetable.specs.Cells.{cells_of}
 use Rattle.timetable.specs.Maps.{ByText}
-use Rattle.timetable.specs.Rows.{Record}
+use Rattle.timetable.specs.Records.{Record}
 use Rattle.timetable.specs.Tables.{Format, at_row, missing_column, table_under}
 use Rattle.timetable.specs.declared.column.Column.{Column}
 use Rattle.timetable.specs.declared.fault.CellFault.{CellFault}

@@ -1,6 +1,6 @@
 pub mod Columns
 pub mod Files
-pub mod Rows
+pub mod Records
 pub mod Reading
 pub mod Fields
 pub mod Headers

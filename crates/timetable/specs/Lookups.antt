@@ -4,7 +4,7 @@ use Rattle.std.specs.FinMap.{get}
 use Rattle.timetable.specs.Maps.{Text}
 use Rattle.timetable.specs.Numbers.{HasNumber, map_of}
 use Rattle.timetable.specs.Timetables.{Tables}
-use Rattle.timetable.specs.declared.items.Trip.{Trip}
+use Rattle.timetable.specs.declared.trip.Trip.{Trip}
 use Rattle.timetable.specs.declared.timetable.ServiceNo.{ServiceNo}
 use Rattle.timetable.specs.declared.timetable.Timetable.{Timetable}
 use Rattle.timetable.specs.declared.timetable.TripNo.{TripNo}

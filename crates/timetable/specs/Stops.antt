@@ -10,7 +10,7 @@ use Rattle.timetable.specs.Maps.{ByText, Text, put_under}
 use Rattle.timetable.specs.Tables.{Format}
 use Rattle.timetable.specs.Times.{BySequence, sequences, stop_time_code}
 use Rattle.timetable.specs.declared.file.File.TheVariants as file
-use Rattle.timetable.specs.declared.items.Visit.{Visit}
+use Rattle.timetable.specs.declared.visit.Visit.{Visit}
 use Rattle.timetable.specs.declared.row.Row.{Row}
 use Rattle.timetable.specs.declared.stop_time.StopTime.{StopTime}
 

@@ -5,7 +5,7 @@ use Rattle.timetable.specs.Cells.{Cells, cells_of, ok_or, then_with}
 use Rattle.timetable.specs.Columns.{is_required, name_of}
 use Rattle.timetable.specs.Fields.{place_of}
 use Rattle.timetable.specs.Files.{columns_of, must_stand}
-use Rattle.timetable.specs.Rows.{Record, records_of}
+use Rattle.timetable.specs.Records.{Record, records_of}
 use Rattle.timetable.specs.declared.column.Column.{Column}
 use Rattle.timetable.specs.declared.fault.CellFault.{CellFault}
 use Rattle.timetable.specs.declared.fault.CellFault.TheVariants as in_cell

@@ -14,13 +14,13 @@ use Rattle.timetable.specs.Tables.{table_in}
 use Rattle.timetable.specs.Times.{BySequence}
 use Rattle.timetable.specs.declared.fault.LoadFault.{LoadFault}
 use Rattle.timetable.specs.declared.grouped.Only.{Only}
-use Rattle.timetable.specs.declared.items.Agency.{Agency}
-use Rattle.timetable.specs.declared.items.Frequency.{Frequency}
-use Rattle.timetable.specs.declared.items.Route.{Route}
-use Rattle.timetable.specs.declared.items.ServiceRow.{ServiceRow}
-use Rattle.timetable.specs.declared.items.Stop.{Stop}
-use Rattle.timetable.specs.declared.items.Trip.{Trip}
-use Rattle.timetable.specs.declared.items.Visit.{Visit}
+use Rattle.timetable.specs.declared.agency.Agency.{Agency}
+use Rattle.timetable.specs.declared.frequency.Frequency.{Frequency}
+use Rattle.timetable.specs.declared.route.Route.{Route}
+use Rattle.timetable.specs.declared.service_row.ServiceRow.{ServiceRow}
+use Rattle.timetable.specs.declared.stop.Stop.{Stop}
+use Rattle.timetable.specs.declared.trip.Trip.{Trip}
+use Rattle.timetable.specs.declared.visit.Visit.{Visit}
 use Rattle.timetable.specs.declared.stop_time.StopTime.{StopTime}
 
 -- what the eight files say
@@ -33,6 +33,19 @@ pub record Tables : Type 0 where
   pub services : ByText (Only ServiceRow)
   pub exceptions : ByText ByDay
   pub frequencies : ByText (List Frequency)
+
+-- the tables of a timetable that was not given: each is empty
+abbrev pub no_tables : Tables
+no_tables = record {
+  agencies = empty;
+  stops = empty;
+  routes = empty;
+  trips = empty;
+  stop_times = visits.empty;
+  services = empty;
+  exceptions = empty;
+  frequencies = empty;
+}
 
 -- a timetable file has at most so many bytes
 abbrev pub limit : ℕ
@@ -53,6 +66,10 @@ tables_from (agency, (stop, (route, (trip, (visit, (service, (date, departure)))
   exceptions = date;
   frequencies = departure;
 }
+
+-- the stop times among them: stop_times.txt is the fifth file
+abbrev pub stop_times_in : Loaded → StopTable
+stop_times_in loaded = loaded.1.1.1.1.0
 
 -- the files of a folder, one after the other, or the first fault
 abbrev pub loaded_from : List ℕ → Contents → Result Loaded LoadFault

@@ -6,12 +6,12 @@ use Rattle.rt_day.specs.Date.{date_of}
 use Rattle.rt_day.specs.Digits.{number_of}
 use Rattle.rt_day.specs.Time.{time_of}
 use Rattle.rt_day.specs.declared.day.Day.{Day}
-use Rattle.timetable.specs.declared.values.Change.{Change}
-use Rattle.timetable.specs.declared.values.Flag.{Flag}
-use Rattle.timetable.specs.declared.values.Headway.{Headway}
-use Rattle.timetable.specs.declared.values.LocationType.{LocationType}
-use Rattle.timetable.specs.declared.values.Sequence.{Sequence}
-use Rattle.timetable.specs.declared.values.Time.{Time}
+use Rattle.timetable.specs.declared.change.Change.{Change}
+use Rattle.timetable.specs.declared.flag.Flag.{Flag}
+use Rattle.timetable.specs.declared.headway.Headway.{Headway}
+use Rattle.timetable.specs.declared.location_type.LocationType.{LocationType}
+use Rattle.timetable.specs.declared.sequence.Sequence.{Sequence}
+use Rattle.timetable.specs.declared.time.Time.{Time}
 
 -- 0 or 1
 abbrev pub flag_of : List ℕ → Option Flag

@@ -12,7 +12,7 @@ use crate::fault::CellFault;
 use crate::field::{field_in, text_of};
 use crate::header::Header;
 use crate::id::Id;
-use crate::values::Value;
+use crate::value::Value;
 use csv::ByteRecord;
 use std::alloc::Global;
 

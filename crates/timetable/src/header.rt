@@ -18,7 +18,7 @@ pub(crate) struct Header {
 }
 
 impl Model for Header {
-    ghost use Rattle.timetable.specs.Rows.{Record};
+    ghost use Rattle.timetable.specs.Records.{Record};
 
     ghost Value = { Record };
 

@@ -2,49 +2,66 @@
 //!
 //! `Timetable::load` reads the eight files of a folder and answers their tables or their first fault,
 //! by file, row and column. One reading serves every file: `table` puts the rows of a file one after
-//! the other into a table, and each file is an `Item` of `items` (its columns, its values, its id)
-//! under a `Group` (what a further row of the same id does). Look-ups take no memory.
+//! the other into a table, and each file is an `Item` (its columns, its values, its id) under a `Group`
+//! (what a further row of the same id does). Look-ups take no memory.
 //!
-//! From the bottom up: `rows` hands out the records of a CSV file; `column`, `file` and `fault` are the
-//! names that faults are made of; `field`, `header`, `cells` and `values` find and read what stands in a
-//! column; `id`, `row` and `items` read a row; `grouped`, `groups`, `stop_ids` and `numbered` hold rows,
-//! `trip_rows` and `visits` stop times while they are read, `trip_times` and `stop_times` from then on;
-//! `table` reads a file and `folder` several; `twice` and `timetable` are the whole. `laws` says what the
-//! tables hold in words of their rows.
+//! From the bottom up: `records` hands out the records of a CSV file; `column`, `file` and `fault` are the
+//! names that faults are made of; `field`, `header` and `cells` find what stands in a column, and `value`
+//! reads it: `flag`, `change`, `location_type`, `sequence`, `headway`, `time`; `id` and `row` read a row,
+//! and each file's is an item: `agency`, `stop`, `route`, `trip`, `visit`, `service_row`, `exception`,
+//! `frequency`; `grouped` holds rows by id, `exceptions`, `frequencies`, `stop_ids` and `numbered` what
+//! stands under it, `trip_rows` and `visits` stop times while they are read, `trip_times` and `stop_times`
+//! from then on; `table` reads a file and `folder` several; `twice` and `timetable` are the whole. `laws`
+//! says what the tables hold in words of their rows.
 #![tactic(auto)]
 
+mod agency;
 mod cells;
+mod change;
 mod column;
+mod exception;
+mod exceptions;
 mod fault;
 mod field;
 mod file;
+mod flag;
 mod folder;
+mod frequencies;
+mod frequency;
 mod grouped;
-mod groups;
 mod header;
+mod headway;
 mod id;
-mod items;
 mod laws;
+mod location_type;
 mod numbered;
+mod records;
+mod route;
 mod row;
-mod rows;
+mod sequence;
+mod service_row;
+mod stop;
 mod stop_ids;
 mod stop_time;
 mod stop_times;
 mod table;
+mod time;
 mod timetable;
+mod trip;
 mod trip_rows;
 mod trip_times;
 mod twice;
-mod values;
+mod value;
+mod visit;
 mod visits;
 
 pub use column::Column;
 pub use fault::LoadFault;
 pub use file::File;
-pub use items::{Frequency, ServiceRow};
+pub use frequency::Frequency;
 pub use laws::{tables_follow_their_rows, visits_twice_follows_its_stops};
-pub use rows::Rows;
+pub use records::Records;
+pub use service_row::ServiceRow;
 pub use stop_time::StopTime;
 pub use timetable::{ServiceNo, Timetable, TripNo};
 

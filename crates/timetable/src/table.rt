@@ -2,7 +2,7 @@
 
 ghost use Rattle.std.specs.Prelude.{◌≡◌, ◌≢◌, ◌∷◌, ◌+◌, ◌<◌, ◌^◌, length, List, Ok, Err, IfOk, IfErr, OnOk};
 ghost use Rattle.csv.specs.Records.{fields_of};
-ghost use Rattle.timetable.specs.Rows.{Record};
+ghost use Rattle.timetable.specs.Records.{Record};
 ghost use Rattle.timetable.specs.Tables.{absent_table, at_row, missing_column, rows_from, table_in, without_mark};
 ghost use Rattle.timetable.specs.declared.fault.LoadFault.TheVariants as fault;
 
@@ -12,8 +12,8 @@ use crate::fault::{CellFault, LoadFault};
 use crate::file::File;
 use crate::grouped::{Group, Grouped};
 use crate::header::Header;
+use crate::records::Records;
 use crate::row::{Item, Row};
-use crate::rows::Rows;
 use csv::ByteRecord;
 use std::alloc::{AllocError, Global};
 
@@ -139,7 +139,7 @@ fn without_mark(bytes: &[u8]) -> &[u8]
 fn read_rows<T: Table + Drop>(
     alloc: Global,
     header: &Header,
-    mut rows: Rows<'_>,
+    mut rows: Records<'_>,
 ) -> Result<T, LoadFault>
     requires { length rows < 2 ^ 63 + 1 }
     ensures ok { IfOk result (λ table. rows_from T.format header.now 2 T.format.empty rows.entry ≡ Ok table) }
@@ -160,7 +160,7 @@ pub(crate) fn read_table<T: Table + Drop>(alloc: Global, bytes: &[u8]) -> Result
     ensures ok { IfOk result (λ table. table_in T.format bytes.now ≡ Ok table) }
     ensures err { IfErr result (λ e. e ≢ fault.Memory → table_in T.format bytes.now ≡ Err e) }
 {
-    let mut rows = Rows::new(alloc, without_mark(bytes));
+    let mut rows = Records::new(alloc, without_mark(bytes));
     let header = match rows.next()? {
         Some(names) => Header::new(names),
         None => Header::new(ByteRecord::new(alloc)),

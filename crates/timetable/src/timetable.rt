@@ -12,14 +12,20 @@ ghost use Rattle.timetable.specs.Timetables.{KnowsTwice};
 ghost use Rattle.timetable.specs.declared.fault.LoadFault.TheVariants as fault;
 ghost use Rattle.timetable.specs.declared.file.File.{File};
 
+use crate::agency::Agency;
+use crate::exceptions::Exceptions;
 use crate::fault::LoadFault;
 use crate::folder::Source;
+use crate::frequencies::Frequencies;
+use crate::frequency::Frequency;
 use crate::grouped::{Grouped, Only};
-use crate::groups::{Exceptions, Frequencies};
-use crate::items::{Agency, Frequency, Route, ServiceRow, Stop, Trip};
 use crate::numbered::Numbered;
+use crate::route::Route;
+use crate::service_row::ServiceRow;
+use crate::stop::Stop;
 use crate::stop_time::StopTime;
 use crate::stop_times::StopTimes;
+use crate::trip::Trip;
 use crate::twice::trips_that_return;
 use rt_day::Day;
 use rt_outside::Files;
@@ -84,11 +90,12 @@ pub(crate) type Loaded = (
 
 impl Timetable {
     ghost use Rattle.timetable.specs.Lookups.{IsService, IsServiceOf, IsStop, IsTrip, IsTripOf, is_present, tables_in, trip_row};
-    ghost use Rattle.timetable.specs.Timetables.{tables_from, tables_of, trip_times, visits_twice};
+    ghost use Rattle.timetable.specs.Timetables.{no_tables, stop_times_in, tables_from, tables_of, trip_times, visits_twice};
 
     /// The timetable that was not given: every table is empty.
     pub fn absent(alloc: Global) -> Timetable
-        ensures { is_present result ≡ false }
+        ensures present { is_present result ≡ false }
+        ensures empty { tables_in result ≡ no_tables }
     {
         let trips = Numbered::empty(alloc);
         let stop_times = StopTimes::empty(alloc);
@@ -133,7 +140,7 @@ impl Timetable {
     }
 
     fn with_tables(alloc: Global, loaded: Loaded) -> Result<Timetable, AllocError>
-        requires { HaveStops loaded.1.1.1.1.0 }
+        requires { HaveStops (stop_times_in loaded) }
         ensures present { IfOk result (λ timetable. is_present timetable ≡ true) }
         ensures tables { IfOk result (λ timetable. tables_from loaded ≡ tables_in timetable) }
     {

@@ -4,10 +4,10 @@ ghost use Rattle.std.specs.Prelude.{◌≡◌, [], IfOk};
 ghost use Rattle.timetable.specs.Timetables.{KnowsTwice, returns_to, trip_times, visits_twice};
 
 use crate::grouped::Only;
-use crate::items::Trip;
 use crate::numbered::Numbered;
 use crate::stop_time::StopTime;
 use crate::stop_times::StopTimes;
+use crate::trip::Trip;
 use std::alloc::{AllocError, Global};
 use std::collections::HashSet;
 

@@ -2,7 +2,7 @@ use Rattle.std.proofs.Common.{◌≡◌, ◌<◌, ◌^◌, drop}
 use Rattle.csv.specs.Records.{fields_of}
 use Rattle.timetable.specs.Cells.{cells_of}
 use Rattle.timetable.specs.Items.{weekdays_from}
-use Rattle.timetable.proofs.items.weekdays.Given as goal
+use Rattle.timetable.proofs.service_row.weekdays.Given as goal
 
 -- what is left goes on from what was read, and the bits so far stay below the next one
 abbrev pub invariant-loop-day : goal.invariant-loop-day

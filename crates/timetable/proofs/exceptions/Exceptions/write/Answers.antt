@@ -1,7 +1,7 @@
 use Rattle.std.proofs.Common.{ap, ◌∙◌}
 use Rattle.std.specs.FinMap as map
 use Rattle.timetable.proofs.DayLemmas.{update_day}
-use Rattle.timetable.proofs.groups.Exceptions.write.Goals as goal
+use Rattle.timetable.proofs.exceptions.Exceptions.write.Goals as goal
 
 pub returns : goal.returns
 returns c =

@@ -7,7 +7,7 @@
 
 ghost use Rattle.std.specs.Prelude.{◌≡◌, ◌≤◌, ◌+◌, length, [], ◌∷◌, IfOk, IfSome, IfNone, OnErr};
 ghost use Rattle.csv.specs.Records.{fields_of};
-ghost use Rattle.timetable.specs.Rows.{records_of};
+ghost use Rattle.timetable.specs.Records.{records_of};
 
 use csv::{ByteRecord, ByteRecordsIntoIter, ReaderBuilder};
 use std::alloc::{AllocError, Global};
@@ -15,27 +15,27 @@ use std::marker::Model;
 
 /// The records that are left of a file in memory.
 #[derive(Drop)]
-pub struct Rows<'a> {
+pub struct Records<'a> {
     records: ByteRecordsIntoIter<&'a [u8]>,
     ended: bool,
 }
 
-impl<'a> Model for Rows<'a> {
+impl<'a> Model for Records<'a> {
     ghost use Rattle.std.specs.Prelude.{List};
-    ghost use Rattle.timetable.specs.Rows.{Record};
+    ghost use Rattle.timetable.specs.Records.{Record};
 
     ghost Value = { List Record };
 
-    ghost use Rattle.timetable.specs.Reading.{IsRows, rows_view};
+    ghost use Rattle.timetable.specs.Reading.{IsRecords, records_view};
 
-    ghost view = { rows_view };
+    ghost view = { records_view };
 
-    ghost invariant = { IsRows };
+    ghost invariant = { IsRecords };
 }
 
-impl<'a> Rows<'a> {
+impl<'a> Records<'a> {
     /// All records of `bytes`.
-    pub fn new(alloc: Global, bytes: &'a [u8]) -> Rows<'a>
+    pub fn new(alloc: Global, bytes: &'a [u8]) -> Records<'a>
         ensures records { result ≡ records_of bytes.now }
         ensures few { length (records_of bytes.now) ≤ length bytes.now + 1 }
     {
@@ -43,7 +43,7 @@ impl<'a> Rows<'a> {
             .has_headers(false)
             .flexible(true)
             .from_reader(alloc, bytes);
-        Rows {
+        Records {
             records: reader.into_byte_records(),
             ended: false,
         }

@@ -1,6 +1,6 @@
 use Rattle.std.proofs.Common.{sym, ◌∙◌}
 use Rattle.timetable.proofs.Steps.{none_was_left, reads_on, row_was_first}
-use Rattle.timetable.proofs.rows.Rows.next.Goals as goal
+use Rattle.timetable.proofs.records.Records.next.Goals as goal
 
 pub invariant_of-self : goal.invariant_of-self
 invariant_of-self c = λ going.

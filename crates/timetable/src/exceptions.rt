@@ -1,10 +1,10 @@
-//! What stands under one service or trip id.
+//! What calendar_dates.txt says of a service.
 
 ghost use Rattle.std.specs.Prelude.{◌≡◌, OnOk};
 ghost use Rattle.std.specs.FinMap as map;
 
+use crate::exception::Exception;
 use crate::grouped::Group;
-use crate::items::{Exception, Frequency};
 use indexmap::IndexMap;
 use rt_day::Day;
 use std::alloc::{AllocError, Global};
@@ -63,48 +63,6 @@ impl Group for Exceptions {
             return Ok(false);
         }
         self.write(item.day, item.added)?;
-        Ok(true)
-    }
-}
-
-/// The frequencies of a trip in the order of the file. Contracts see them as a list.
-#[derive(Drop)]
-pub(crate) struct Frequencies {
-    items: Vec<Frequency>,
-}
-
-impl Model for Frequencies {
-    ghost use Rattle.std.specs.Prelude.{List};
-    ghost use Rattle.timetable.specs.declared.items.Frequency.{Frequency};
-
-    ghost Value = { List Frequency };
-
-    ghost view = { λ frequencies. frequencies.items.items };
-}
-
-impl Frequencies {
-    pub fn as_slice(&self) -> &[Frequency]
-        ensures { result.now ≡ self.now }
-    {
-        self.items.as_slice()
-    }
-}
-
-impl Group for Frequencies {
-    ghost use Rattle.std.specs.Prelude.{[], ◌∷◌, ◌++◌, Some};
-
-    type Item = Frequency;
-
-    ghost grouping = { record { first = λ item. item ∷ []; more = λ items item. Some (items ++ item ∷ []) } };
-
-    fn first(alloc: Global, item: Frequency) -> Result<Frequencies, AllocError> {
-        let mut items = Vec::new(alloc);
-        items.push(item)?;
-        Ok(Frequencies { items })
-    }
-
-    fn put(&mut self, item: Frequency) -> Result<bool, AllocError> {
-        self.items.push(item)?;
         Ok(true)
     }
 }

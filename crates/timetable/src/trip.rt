@@ -1,0 +1,49 @@
+//! A trip of trips.txt.
+
+use crate::cells::Cells;
+use crate::column::Column;
+use crate::fault::CellFault;
+use crate::file::File;
+use crate::flag::Flag;
+use crate::id::Id;
+use crate::row::{Item, Row};
+use std::alloc::Global;
+
+/// A trip, with its route, its service, and its direction where that is given.
+#[derive(Drop)]
+pub(crate) struct Trip {
+    pub route: Id,
+    pub service: Id,
+    pub direction: Option<u32>,
+}
+
+impl Item for Trip {
+    ghost use Rattle.timetable.specs.declared.file.File.TheVariants as file;
+    ghost use Rattle.timetable.specs.Items.{trip_row};
+
+    ghost source = { file.Trips };
+
+    ghost row_of = { trip_row };
+
+    fn file() -> File {
+        File::Trips
+    }
+
+    fn read(alloc: Global, cells: &Cells<'_>) -> Result<Row<Trip>, CellFault> {
+        let route = cells.id(alloc, Column::RouteId)?;
+        let service = cells.id(alloc, Column::ServiceId)?;
+        let id = cells.filled_id(alloc, Column::TripId)?;
+        let direction = match cells.value::<Option<Flag>>(Column::DirectionId)? {
+            Some(Flag(direction)) => Some(direction as u32),
+            None => None,
+        };
+        Ok(Row {
+            id,
+            item: Trip {
+                route,
+                service,
+                direction,
+            },
+        })
+    }
+}
