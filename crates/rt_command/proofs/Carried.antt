@@ -3,8 +3,9 @@ use Rattle.std.proofs.Common.{◌≡◌, ℕ, List, ◌⊎◌, inl, inr, refl, s
 use Rattle.std.specs.declared.option.Option.{Option}
 use Rattle.std.specs.List.{Contains}
 use Rattle.std.specs.Io.KnownBytes.{append_known}
-use Rattle.rt_outside.specs.Store.{Contents}
-use Rattle.rt_outside.specs.Sink.{AppendsPrefix}
+use Rattle.rt_outside.specs.Causes.{Rose}
+use Rattle.rt_outside.specs.Store.{Contents, FilesState, contents_told}
+use Rattle.rt_outside.specs.Sink.{AppendsPrefix, SinkState}
 use Rattle.rt_outside.proofs.Appends.{append_known-nil, AppendsPrefix-nothing}
 use Rattle.timetable.specs.Folders.{path}
 use Rattle.timetable.specs.declared.fault.LoadFault.{LoadFault}
@@ -17,16 +18,21 @@ use Rattle.rt_command.specs.declared.status.Status.TheVariants as answer
 use Rattle.rt_command.specs.Inputs.{refusal_text}
 use Rattle.rt_command.specs.Report.{Report, files_report, check_report, refused_input}
 use Rattle.rt_command.specs.Faults.{TellsFault, IsErrorText, says_memory, says_write_fault, says_read_fault, says_refused, Says, SaysFault, SaysLoadFault, IsReported, IsInput, memory_text, write_fault_text, read_fault_text}
+use Rattle.rt_command.specs.Outside.{Outside, outside}
 use Rattle.rt_command.specs.Carried.{CarriesOut}
 use Rattle.rt_command.proofs.Told.{tells, tells_more}
 
-module _ (report : Contents → Report) (reads : List ℕ → Type 0) (contents : Option Contents) (last : Option (List ℕ)) (files_rose out_rose err_rose : Type 0)
-    (ob oa eb ea : Option (List ℕ)) (result : Status)
-    (text : IfSome contents (λ held. AppendsPrefix ob oa (report held).text)) where
+-- the text that stands on the output is a prefix of the report's
+abbrev pub IsPart : (Contents → Report) → Outside → Outside → Type 0
+IsPart report before after =
+    IfSome (contents_told before.files.told) (λ held. AppendsPrefix before.out.written after.out.written (report held).text)
+
+module _ (report : Contents → Report) (reads : List ℕ → Type 0) (before after : Outside) (result : Status) (text : IsPart report before after) where
   -- an answer that no report has
-  at_fault : (actual : Status) → result ≡ actual → (IsReported actual → ⊥) → (actual ≡ answer.ReadFault → files_rose) →
-      (actual ≡ answer.WriteFault → out_rose ⊎ err_rose) → TellsFault reads last err_rose eb ea result →
-      CarriesOut report reads contents last files_rose out_rose err_rose ob oa eb ea result
+  at_fault : (actual : Status) → result ≡ actual → (IsReported actual → ⊥) →
+      (actual ≡ answer.ReadFault → Rose before.files.faults after.files.faults) →
+      (actual ≡ answer.WriteFault → Rose before.out.faults after.out.faults ⊎ Rose before.err.faults after.err.faults) →
+      TellsFault reads after.files.asked before.err after.err result → CarriesOut report reads before after result
   at_fault actual is none read write told = record {
     text = text;
     whole = λ r. absurd (none (subst IsReported is r));
@@ -39,141 +45,163 @@ module _ (report : Contents → Report) (reads : List ℕ → Type 0) (contents 
   }
 
   -- a text was said, whose answer no report has
-  at_said : (said_text : List ℕ) (meant : Status) → IsErrorText reads said_text → (IsReported meant → ⊥) → (meant ≡ answer.ReadFault → files_rose) →
-      (meant ≡ answer.WriteFault → out_rose) → (ea ≡ append_known eb said_text → TellsFault reads last err_rose eb ea meant) →
-      Says said_text meant err_rose eb ea result → CarriesOut report reads contents last files_rose out_rose err_rose ob oa eb ea result
+  at_said : (said_text : List ℕ) (meant : Status) → IsErrorText reads said_text → (IsReported meant → ⊥) →
+      (meant ≡ answer.ReadFault → Rose before.files.faults after.files.faults) →
+      (meant ≡ answer.WriteFault → Rose before.out.faults after.out.faults) →
+      (after.err.written ≡ append_known before.err.written said_text → TellsFault reads after.files.asked before.err after.err meant) →
+      Says said_text meant before.err after.err result → CarriesOut report reads before after result
   at_said said_text meant is none read write whole (inl said) =
-      at_fault meant said.0 none read (λ e. inl (write e)) (tells reads last err_rose eb ea said_text meant result is whole (inl said))
+      at_fault meant said.0 none read (λ e. inl (write e))
+      (tells reads after.files.asked before.err after.err said_text meant result is whole (inl said))
   at_said said_text meant is none read write whole (inr said) =
-      at_fault answer.WriteFault said.0 (λ r. r) (λ e. absurd (cc e)) (λ _. inr said.1) (tells reads last err_rose eb ea said_text meant result is whole (inr said))
+      at_fault answer.WriteFault said.0 (λ r. r) (λ e. absurd (cc e)) (λ _. inr said.1)
+      (tells reads after.files.asked before.err after.err said_text meant result is whole (inr said))
 
-  pub carried_read_fault : (file : List ℕ) → reads file → files_rose → IfSome last (λ asked. asked ≡ file) →
-      Says (read_fault_text file) answer.ReadFault err_rose eb ea result → CarriesOut report reads contents last files_rose out_rose err_rose ob oa eb ea result
+  pub carried_read_fault : (file : List ℕ) → reads file → Rose before.files.faults after.files.faults →
+      IfSome after.files.asked (λ asked. asked ≡ file) → Says (read_fault_text file) answer.ReadFault before.err after.err result →
+      CarriesOut report reads before after result
   carried_read_fault file is rose named =
-      at_said (read_fault_text file) answer.ReadFault (says_read_fault file is) (λ r. r) (λ _. rose) (λ e. absurd (cc e)) (λ whole. (file, is, named, whole))
+      at_said (read_fault_text file) answer.ReadFault (says_read_fault file is) (λ r. r) (λ _. rose) (λ e. absurd (cc e))
+      (λ whole. (file, is, named, whole))
 
-  pub carried_memory : Says memory_text answer.Memory err_rose eb ea result → CarriesOut report reads contents last files_rose out_rose err_rose ob oa eb ea result
+  pub carried_memory : Says memory_text answer.Memory before.err after.err result → CarriesOut report reads before after result
   carried_memory = at_said memory_text answer.Memory says_memory (λ r. r) (λ e. absurd (cc e)) (λ e. absurd (cc e)) (λ whole. whole)
 
-  pub carried_fault : (why : Fault) (file : List ℕ) → reads file → (why ≡ fault.Read → files_rose) → (why ≡ fault.Write → out_rose) →
-      IfSome last (λ asked. asked ≡ file) → SaysFault why file err_rose eb ea result →
-      CarriesOut report reads contents last files_rose out_rose err_rose ob oa eb ea result
+  pub carried_fault : (why : Fault) (file : List ℕ) → reads file → (why ≡ fault.Read → Rose before.files.faults after.files.faults) →
+      (why ≡ fault.Write → Rose before.out.faults after.out.faults) → IfSome after.files.asked (λ asked. asked ≡ file) →
+      SaysFault why file before.err after.err result → CarriesOut report reads before after result
   carried_fault fault.Read file is read write named said = carried_read_fault file is (read refl) named said
   carried_fault fault.Write file is read write named said =
       at_said write_fault_text answer.WriteFault says_write_fault (λ r. r) (λ e. absurd (cc e)) (λ _. write refl) (λ whole. inl whole) said
   carried_fault fault.Memory file is read write named said = carried_memory said
 
--- nothing was written
-nothing : (report : Contents → Report) (contents : Option Contents) (out : Option (List ℕ)) → IfSome contents (λ held. AppendsPrefix out out (report held).text)
-nothing report None out = tt
-nothing report (Some held) out = AppendsPrefix-nothing out (report held).text
+-- the files and the error stream were used, and nothing was written to the output
+module _ (report : Contents → Report) (reads : List ℕ → Type 0) (files later : FilesState) (out eb ea : SinkState) where
+  abbrev pub old : Outside
+  old = outside files out eb
 
--- an input was refused, and nothing was written to the output
-module _ (report : Contents → Report) (reads : List ℕ → Type 0) (last : Option (List ℕ)) (files_rose out_rose err_rose : Type 0)
-    (out eb ea : Option (List ℕ)) (text : List ℕ) where
-  whole : (contents : Option Contents) → IfSome contents (λ held. report held ≡ refused_input text) → IfSome contents (λ held. out ≡ append_known out (report held).text)
-  whole None is = tt
-  whole (Some held) is = subst (λ r. out ≡ append_known out r.text) (sym is) (sym (append_known-nil out))
+  abbrev pub new : Outside
+  new = outside later out ea
 
-  status : (contents : Option Contents) → IfSome contents (λ held. report held ≡ refused_input text) → IfSome contents (λ held. answer.Refused ≡ (report held).status)
-  status None is = tt
-  status (Some held) is = ap (λ r. r.status) (sym is)
+  nothing : (contents : Option Contents) → IfSome contents (λ held. AppendsPrefix out.written out.written (report held).text)
+  nothing None = tt
+  nothing (Some held) = AppendsPrefix-nothing out.written (report held).text
 
-  errors : (contents : Option Contents) → IfSome contents (λ held. report held ≡ refused_input text) → ea ≡ append_known eb text →
-      IfSome contents (λ held. ea ≡ append_known eb (report held).errors)
-  errors None is e = tt
-  errors (Some held) is e = subst (λ r. ea ≡ append_known eb r.errors) (sym is) e
+  -- an input was refused by this text
+  abbrev pub RefusedBy : List ℕ → Type 0
+  RefusedBy text = IfSome (contents_told files.told) (λ held. report held ≡ refused_input text)
 
-  at_refused : (contents : Option Contents) → IfSome contents (λ held. report held ≡ refused_input text) → ea ≡ append_known eb text →
-      CarriesOut report reads contents last files_rose out_rose err_rose out out eb ea answer.Refused
-  at_refused contents is e = record {
-    text = nothing report contents out;
-    whole = λ r. whole contents is;
-    status = λ r. status contents is;
-    errors = λ r. errors contents is e;
+  whole : (contents : Option Contents) (text : List ℕ) → IfSome contents (λ held. report held ≡ refused_input text) →
+      IfSome contents (λ held. out.written ≡ append_known out.written (report held).text)
+  whole None text is = tt
+  whole (Some held) text is = subst (λ r. out.written ≡ append_known out.written r.text) (sym is) (sym (append_known-nil out.written))
+
+  status : (contents : Option Contents) (text : List ℕ) → IfSome contents (λ held. report held ≡ refused_input text) →
+      IfSome contents (λ held. answer.Refused ≡ (report held).status)
+  status None text is = tt
+  status (Some held) text is = ap (λ r. r.status) (sym is)
+
+  errors : (contents : Option Contents) (text : List ℕ) → IfSome contents (λ held. report held ≡ refused_input text) →
+      ea.written ≡ append_known eb.written text → IfSome contents (λ held. ea.written ≡ append_known eb.written (report held).errors)
+  errors None text is e = tt
+  errors (Some held) text is e = subst (λ r. ea.written ≡ append_known eb.written r.errors) (sym is) e
+
+  at_refused : (text : List ℕ) → RefusedBy text → ea.written ≡ append_known eb.written text → CarriesOut report reads old new answer.Refused
+  at_refused text is e = record {
+    text = nothing (contents_told files.told);
+    whole = λ r. whole (contents_told files.told) text is;
+    status = λ r. status (contents_told files.told) text is;
+    errors = λ r. errors (contents_told files.told) text is e;
     not_usage = λ e. absurd (cc e);
     read_fault = λ e. absurd (cc e);
     write_fault = λ e. absurd (cc e);
     told = tt;
   }
 
--- a fault of the timetable was told, and nothing was written to the output
-module _ (report : Contents → Report) (reads : List ℕ → Type 0) (contents : Option Contents) (last : Option (List ℕ)) (files_rose out_rose err_rose : Type 0)
-    (out eb ea : Option (List ℕ)) (result : Status) (folder : List ℕ) (reading : (file : File) → reads (path folder file)) where
   -- it was refused, or no memory was found to say so
-  refused : (why : LoadFault) → IfSome contents (λ held. report held ≡ refused_input (refusal_text folder why)) →
-      Says (refusal_text folder why) answer.Refused err_rose eb ea result ⊎ Says memory_text answer.Memory err_rose eb ea result →
-      CarriesOut report reads contents last files_rose out_rose err_rose out out eb ea result
-  refused why is (inl (inl said)) =
-      subst (CarriesOut report reads contents last files_rose out_rose err_rose out out eb ea) (sym said.0)
-      (at_refused report reads last files_rose out_rose err_rose out eb ea (refusal_text folder why) contents is said.1)
-  refused why is (inl (inr said)) =
-      at_fault report reads contents last files_rose out_rose err_rose out out eb ea result (nothing report contents out) answer.WriteFault said.0 (λ r. r)
-      (λ e. absurd (cc e)) (λ _. inr said.1)
-      (tells reads last err_rose eb ea (refusal_text folder why) answer.Refused result (says_refused folder why reading) (λ w. tt) (inr said))
-  refused why is (inr said) = carried_memory report reads contents last files_rose out_rose err_rose out out eb ea result (nothing report contents out) said
+  pub carried_refused : (result : Status) (text : List ℕ) → IsErrorText reads text → RefusedBy text →
+      Says text answer.Refused eb ea result ⊎ Says memory_text answer.Memory eb ea result → CarriesOut report reads old new result
+  carried_refused result text may is (inl (inl said)) = subst (CarriesOut report reads old new) (sym said.0) (at_refused text is said.1)
+  carried_refused result text may is (inl (inr said)) =
+      at_fault report reads old new result (nothing (contents_told files.told)) answer.WriteFault said.0 (λ r. r) (λ e. absurd (cc e)) (λ _. inr said.1)
+      (tells reads later.asked eb ea text answer.Refused result may (λ w. tt) (inr said))
+  carried_refused result text may is (inr said) = carried_memory report reads old new result (nothing (contents_told files.told)) said
 
-  pub carried_load_fault : (why : LoadFault) → (((file : File) → why ≡ load.ReadFault file → ⊥) → (why ≡ load.Memory → ⊥) →
-      IfSome contents (λ held. report held ≡ refused_input (refusal_text folder why))) →
-      ((file : File) → why ≡ load.ReadFault file → files_rose × IfSome last (λ asked. asked ≡ path folder file)) →
-      SaysLoadFault folder why err_rose eb ea result → CarriesOut report reads contents last files_rose out_rose err_rose out out eb ea result
-  carried_load_fault (load.ReadFault file) is read said =
-      carried_read_fault report reads contents last files_rose out_rose err_rose out out eb ea result (nothing report contents out) (path folder file) (reading file)
-      (read file refl).0 (read file refl).1 said
-  carried_load_fault load.Memory is read said =
-      carried_memory report reads contents last files_rose out_rose err_rose out out eb ea result (nothing report contents out) said
-  carried_load_fault (load.MissingFile file) is read said = refused (load.MissingFile file) (is (λ f e. cc e) (λ e. cc e)) said
-  carried_load_fault (load.MissingColumn file column) is read said = refused (load.MissingColumn file column) (is (λ f e. cc e) (λ e. cc e)) said
-  carried_load_fault (load.BadText file row) is read said = refused (load.BadText file row) (is (λ f e. cc e) (λ e. cc e)) said
-  carried_load_fault (load.BadValue file row column) is read said = refused (load.BadValue file row column) (is (λ f e. cc e) (λ e. cc e)) said
-  carried_load_fault (load.RepeatedKey file row) is read said = refused (load.RepeatedKey file row) (is (λ f e. cc e) (λ e. cc e)) said
-  carried_load_fault (load.TooLarge file) is read said = refused (load.TooLarge file) (is (λ f e. cc e) (λ e. cc e)) said
+  -- the fault of the timetable in a folder was told
+  module _ (result : Status) (folder : List ℕ) (reading : (file : File) → reads (path folder file)) where
+    refused : (file : File) (why : LoadFault) → IsErrorText reads (refusal_text folder why) → RefusedBy (refusal_text folder why) →
+        Says (refusal_text folder why) answer.Refused eb ea result ⊎ Says memory_text answer.Memory eb ea result → CarriesOut report reads old new result
+    refused file why = carried_refused result (refusal_text folder why)
+
+    pub carried_load_fault : (why : LoadFault) →
+        (((file : File) → why ≡ load.ReadFault file → ⊥) → (why ≡ load.Memory → ⊥) → RefusedBy (refusal_text folder why)) →
+        ((file : File) → why ≡ load.ReadFault file → Rose files.faults later.faults × IfSome later.asked (λ asked. asked ≡ path folder file)) →
+        SaysLoadFault folder why eb ea result → CarriesOut report reads old new result
+    carried_load_fault (load.ReadFault file) is read said =
+        carried_read_fault report reads old new result (nothing (contents_told files.told)) (path folder file) (reading file)
+        (read file refl).0 (read file refl).1 said
+    carried_load_fault load.Memory is read said = carried_memory report reads old new result (nothing (contents_told files.told)) said
+    carried_load_fault (load.MissingFile file) is read said =
+        refused file (load.MissingFile file) (says_refused _ _ (reading file)) (is (λ f e. cc e) (λ e. cc e)) said
+    carried_load_fault (load.MissingColumn file column) is read said =
+        refused file (load.MissingColumn file column) (says_refused _ _ (reading file)) (is (λ f e. cc e) (λ e. cc e)) said
+    carried_load_fault (load.BadText file row) is read said =
+        refused file (load.BadText file row) (says_refused _ _ (reading file)) (is (λ f e. cc e) (λ e. cc e)) said
+    carried_load_fault (load.BadValue file row column) is read said =
+        refused file (load.BadValue file row column) (says_refused _ _ (reading file)) (is (λ f e. cc e) (λ e. cc e)) said
+    carried_load_fault (load.RepeatedKey file row) is read said =
+        refused file (load.RepeatedKey file row) (says_refused _ _ (reading file)) (is (λ f e. cc e) (λ e. cc e)) said
+    carried_load_fault (load.TooLarge file) is read said =
+        refused file (load.TooLarge file) (says_refused _ _ (reading file)) (is (λ f e. cc e) (λ e. cc e)) said
 
 -- what was carried out behind the reading of other files, as part of the whole
-module _ (report whole : Contents → Report) (reads more : List ℕ → Type 0) (last : Option (List ℕ)) (rose files_rose out_rose err_rose : Type 0)
-    (ob oa eb ea : Option (List ℕ)) (result : Status) (reading : (name : List ℕ) → reads name → more name) (rises : rose → files_rose) where
-  within : (contents : Option Contents) → IfSome contents (λ held. report held ≡ whole held) →
-      CarriesOut report reads contents last rose out_rose err_rose ob oa eb ea result → CarriesOut whole more contents last files_rose out_rose err_rose ob oa eb ea result
-  within None is carried = record {
-    text = tt;
-    whole = λ r. tt;
-    status = λ r. tt;
-    errors = λ r. tt;
+module _ (report whole : Contents → Report) (reads more : List ℕ → Type 0) (files : FilesState) (out err : SinkState) (after : Outside) (result : Status)
+    (reading : (name : List ℕ) → reads name → more name) (first : FilesState)
+    (rises : Rose files.faults after.files.faults → Rose first.faults after.files.faults) where
+  within : (contents : Option Contents) → contents_told files.told ≡ contents → contents_told first.told ≡ contents →
+      IfSome contents (λ held. report held ≡ whole held) →
+      CarriesOut report reads (outside files out err) after result → CarriesOut whole more (outside first out err) after result
+  within None mid begin is carried = record {
+    text = none _ begin;
+    whole = λ r. none _ begin;
+    status = λ r. none _ begin;
+    errors = λ r. none _ begin;
     not_usage = carried.not_usage;
     read_fault = λ e. rises (carried.read_fault e);
     write_fault = carried.write_fault;
-    told = tells_more reads more last err_rose eb ea result reading carried.told;
+    told = tells_more reads more after.files.asked err after.err result reading carried.told;
   }
-  within (Some held) is carried = record {
-    text = subst (λ r. AppendsPrefix ob oa r.text) is carried.text;
-    whole = λ r. subst (λ r. oa ≡ append_known ob r.text) is (carried.whole r);
-    status = λ r. subst (λ r. result ≡ r.status) is (carried.status r);
-    errors = λ r. subst (λ r. ea ≡ append_known eb r.errors) is (carried.errors r);
+    where
+      none : (P : Contents → Type 0) → contents_told first.told ≡ None → IfSome (contents_told first.told) P
+      none P e = subst (λ contents. IfSome contents P) (sym e) tt
+  within (Some held) mid begin is carried = record {
+    text = part (λ r. AppendsPrefix out.written after.out.written r.text) carried.text;
+    whole = λ r. part (λ r. after.out.written ≡ append_known out.written r.text) (carried.whole r);
+    status = λ r. part (λ r. result ≡ r.status) (carried.status r);
+    errors = λ r. part (λ r. after.err.written ≡ append_known err.written r.errors) (carried.errors r);
     not_usage = carried.not_usage;
     read_fault = λ e. rises (carried.read_fault e);
     write_fault = carried.write_fault;
-    told = tells_more reads more last err_rose eb ea result reading carried.told;
+    told = tells_more reads more after.files.asked err after.err result reading carried.told;
   }
+    where
+      part : (P : Report → Type 0) → IfSome (contents_told files.told) (λ held. P (report held)) → IfSome (contents_told first.told) (λ held. P (whole held))
+      part P said =
+          subst (λ contents. IfSome contents (λ held. P (whole held))) (sym begin) (subst P is (subst (λ contents. IfSome contents (λ held. P (report held))) mid said))
 
-  pub carried_within : (before after : Option Contents) → after ≡ before → IfSome before (λ held. report held ≡ whole held) →
-      CarriesOut report reads after last rose out_rose err_rose ob oa eb ea result → CarriesOut whole more before last files_rose out_rose err_rose ob oa eb ea result
-  carried_within before after same is carried =
-      within before is (subst (λ contents. CarriesOut report reads contents last rose out_rose err_rose ob oa eb ea result) same carried)
+  pub carried_within : contents_told files.told ≡ contents_told first.told → IfSome (contents_told first.told) (λ held. report held ≡ whole held) →
+      CarriesOut report reads (outside files out err) after result → CarriesOut whole more (outside first out err) after result
+  carried_within same is carried = within (contents_told first.told) same refl is carried
 
 -- the same of equal names
-pub carried_names : (moment : ℕ) (a b : List (List ℕ)) (contents : Option Contents) (last : Option (List ℕ)) (files_rose out_rose err_rose : Type 0)
-    (ob oa eb ea : Option (List ℕ)) (result : Status) → a ≡ b →
-    CarriesOut (files_report moment a) (Contains a) contents last files_rose out_rose err_rose ob oa eb ea result →
-    CarriesOut (files_report moment b) (Contains b) contents last files_rose out_rose err_rose ob oa eb ea result
-carried_names moment a b contents last files_rose out_rose err_rose ob oa eb ea result same =
-    subst (λ names. CarriesOut (files_report moment names) (Contains names) contents last files_rose out_rose err_rose ob oa eb ea result) same
+pub carried_names : (moment : ℕ) (a b : List (List ℕ)) (before after : Outside) (result : Status) → a ≡ b →
+    CarriesOut (files_report moment a) (Contains a) before after result → CarriesOut (files_report moment b) (Contains b) before after result
+carried_names moment a b before after result same = subst (λ names. CarriesOut (files_report moment names) (Contains names) before after result) same
 
 -- the same of an equal folder, an equal moment and equal names
-pub carried_at : (f g : Option (List ℕ)) (m n : ℕ) (a b : List (List ℕ)) (contents : Option Contents) (last : Option (List ℕ)) (files_rose out_rose err_rose : Type 0)
-    (ob oa eb ea : Option (List ℕ)) (result : Status) → f ≡ g → m ≡ n → a ≡ b →
-    CarriesOut (check_report f m a) (IsInput f a) contents last files_rose out_rose err_rose ob oa eb ea result →
-    CarriesOut (check_report g n b) (IsInput g b) contents last files_rose out_rose err_rose ob oa eb ea result
-carried_at f g m n a b contents last files_rose out_rose err_rose ob oa eb ea result folder moment names carried =
-    subst (λ x. CarriesOut (check_report x n b) (IsInput x b) contents last files_rose out_rose err_rose ob oa eb ea result) folder
-    (subst (λ x. CarriesOut (check_report f n x) (IsInput f x) contents last files_rose out_rose err_rose ob oa eb ea result) names
-    (subst (λ x. CarriesOut (check_report f x a) (IsInput f a) contents last files_rose out_rose err_rose ob oa eb ea result) moment carried))
+pub carried_at : (f g : Option (List ℕ)) (m n : ℕ) (a b : List (List ℕ)) (before after : Outside) (result : Status) → f ≡ g → m ≡ n → a ≡ b →
+    CarriesOut (check_report f m a) (IsInput f a) before after result → CarriesOut (check_report g n b) (IsInput g b) before after result
+carried_at f g m n a b before after result folder moment names carried =
+    subst (λ x. CarriesOut (check_report x n b) (IsInput x b) before after result) folder
+    (subst (λ x. CarriesOut (check_report f n x) (IsInput f x) before after result) names
+    (subst (λ x. CarriesOut (check_report f x a) (IsInput f a) before after result) moment carried))

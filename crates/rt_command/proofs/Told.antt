@@ -2,8 +2,8 @@
 use Rattle.std.proofs.Common.{◌≡◌, ℕ, List, inl, inr, sym, subst, Some, None, IfSome}
 use Rattle.std.specs.declared.option.Option.{Option}
 use Rattle.std.specs.Io.KnownBytes.{append_known}
+use Rattle.rt_outside.specs.Sink.{SinkState}
 use Rattle.rt_outside.specs.Store.{Contents}
-use Rattle.timetable.specs.Folders.{path}
 use Rattle.rt_command.specs.declared.request.Request.{Request}
 use Rattle.rt_command.specs.declared.status.Status.{Status}
 use Rattle.rt_command.specs.declared.status.Status.TheVariants as answer
@@ -11,18 +11,21 @@ use Rattle.rt_command.specs.Report.{Report, report_of, asked_report, usage_text}
 use Rattle.rt_command.specs.Faults.{TellsFault, IsErrorText, says_usage, says_memory, says_write_fault, says_read_fault, says_refused, Says, IsReported}
 
 -- a text that may stand there was said
-pub tells : (reads : List ℕ → Type 0) (last : Option (List ℕ)) (rose : Type 0) (before after : Option (List ℕ)) (text : List ℕ) (meant result : Status) →
-    IsErrorText reads text → (after ≡ append_known before text → TellsFault reads last rose before after meant) →
-    Says text meant rose before after result → TellsFault reads last rose before after result
-tells reads last rose before after text meant result is whole (inl said) = subst (TellsFault reads last rose before after) (sym said.0) (whole said.1)
-tells reads last rose before after text meant result is whole (inr said) = subst (TellsFault reads last rose before after) (sym said.0) (inr (said.1, (text, is, said.2)))
+pub tells : (reads : List ℕ → Type 0) (last : Option (List ℕ)) (before after : SinkState) (text : List ℕ) (meant result : Status) →
+    IsErrorText reads text → (after.written ≡ append_known before.written text → TellsFault reads last before after meant) →
+    Says text meant before after result → TellsFault reads last before after result
+tells reads last before after text meant result is whole (inl said) = subst (TellsFault reads last before after) (sym said.0) (whole said.1)
+tells reads last before after text meant result is whole (inr said) =
+    subst (TellsFault reads last before after) (sym said.0) (inr (said.1, (text, is, said.2)))
 
 -- the usage text was said where there is no request
-pub usage_told : (told : Option Contents) (asked : Option Request) (now : ℕ) (rose : Type 0) (before after : Option (List ℕ)) (result : Status) → None ≡ asked →
-    Says usage_text answer.Usage rose before after result → IsReported result → IfSome told (λ held. after ≡ append_known before (report_of asked now held).errors)
-usage_told None asked now rose before after result none said reported = tt
-usage_told (Some held) asked now rose before after result none (inl said) reported = subst (λ a. after ≡ append_known before (report_of a now held).errors) none said.1
-usage_told (Some held) asked now rose before after result none (inr said) reported = absurd (subst IsReported said.0 reported)
+pub usage_told : (told : Option Contents) (asked : Option Request) (now : ℕ) (before after : SinkState) (result : Status) → None ≡ asked →
+    Says usage_text answer.Usage before after result → IsReported result →
+    IfSome told (λ held. after.written ≡ append_known before.written (report_of asked now held).errors)
+usage_told None asked now before after result none said reported = tt
+usage_told (Some held) asked now before after result none (inl said) reported =
+    subst (λ a. after.written ≡ append_known before.written (report_of a now held).errors) none said.1
+usage_told (Some held) asked now before after result none (inr said) reported = absurd (subst IsReported said.0 reported)
 
 -- what holds of the report on what is asked for holds of the report on the words
 pub report_told : (P : Report → Type 0) (told : Option Contents) (asked : Request) (request : Option Request) (now : ℕ) → Some asked ≡ request →
@@ -30,22 +33,23 @@ pub report_told : (P : Report → Type 0) (told : Option Contents) (asked : Requ
 report_told P told asked request now is = subst (λ r. IfSome told (λ held. P (report_of r now held))) is
 
 -- where more files are read, a text that may stand there still may
-error_text_more : (reads more : List ℕ → Type 0) (text : List ℕ) → ((name : List ℕ) → reads name → more name) → IsErrorText reads text → IsErrorText more text
+error_text_more : (reads more : List ℕ → Type 0) (text : List ℕ) → ((name : List ℕ) → reads name → more name) →
+    IsErrorText reads text → IsErrorText more text
 error_text_more reads more text reading says_usage = says_usage
 error_text_more reads more text reading says_memory = says_memory
 error_text_more reads more text reading says_write_fault = says_write_fault
 error_text_more reads more text reading (says_read_fault name is) = says_read_fault name (reading name is)
-error_text_more reads more text reading (says_refused folder why is) = says_refused folder why (λ file. reading (path folder file) (is file))
+error_text_more reads more text reading (says_refused name why is) = says_refused name why (reading name is)
 
 -- and what a fault tells still does
-pub tells_more : (reads more : List ℕ → Type 0) (last : Option (List ℕ)) (rose : Type 0) (before after : Option (List ℕ)) (result : Status) →
-    ((name : List ℕ) → reads name → more name) → TellsFault reads last rose before after result → TellsFault more last rose before after result
-tells_more reads more last rose before after answer.Clean reading told = tt
-tells_more reads more last rose before after answer.Found reading told = tt
-tells_more reads more last rose before after answer.Usage reading told = tt
-tells_more reads more last rose before after answer.ReadFault reading told = (told.0, reading told.0 told.1, told.2, told.3)
-tells_more reads more last rose before after answer.WriteFault reading (inl whole) = inl whole
-tells_more reads more last rose before after answer.WriteFault reading (inr part) =
+pub tells_more : (reads more : List ℕ → Type 0) (last : Option (List ℕ)) (before after : SinkState) (result : Status) →
+    ((name : List ℕ) → reads name → more name) → TellsFault reads last before after result → TellsFault more last before after result
+tells_more reads more last before after answer.Clean reading told = tt
+tells_more reads more last before after answer.Found reading told = tt
+tells_more reads more last before after answer.Usage reading told = tt
+tells_more reads more last before after answer.ReadFault reading told = (told.0, reading told.0 told.1, told.2, told.3)
+tells_more reads more last before after answer.WriteFault reading (inl whole) = inl whole
+tells_more reads more last before after answer.WriteFault reading (inr part) =
     inr (part.0, (part.1.0, error_text_more reads more part.1.0 reading part.1.1, part.1.2))
-tells_more reads more last rose before after answer.Memory reading told = told
-tells_more reads more last rose before after answer.Refused reading told = tt
+tells_more reads more last before after answer.Memory reading told = told
+tells_more reads more last before after answer.Refused reading told = tt

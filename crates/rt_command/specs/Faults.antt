@@ -1,13 +1,14 @@
 -- What is written to the error stream where a run isn't carried out. (This profile.)
 use Rattle.std.specs.Prelude.{◌≡◌, ℕ, List, ◌++◌, ◌⊎◌, codes, Option, Some, None, IfSome, Contains, ⊤}
 use Rattle.std.specs.Io.KnownBytes.{append_known}
-use Rattle.rt_outside.specs.Sink.{AppendsPrefix}
+use Rattle.rt_outside.specs.Causes.{Rose}
+use Rattle.rt_outside.specs.Sink.{AppendsPrefix, SinkState}
 use Rattle.rt_command.specs.declared.fault.Fault.{Fault}
 use Rattle.rt_command.specs.declared.fault.Fault.TheVariants as fault
 use Rattle.rt_command.specs.declared.request.Request.{Request}
 use Rattle.rt_command.specs.declared.status.Status.{Status}
 use Rattle.rt_command.specs.declared.status.Status.TheVariants as answer
-use Rattle.rt_command.specs.Inputs.{refusal_text}
+use Rattle.rt_command.specs.Inputs.{refused_text, refusal_text}
 use Rattle.rt_command.specs.Words.{folder_of, files_of}
 use Rattle.rt_command.specs.Report.{usage_text}
 use Rattle.timetable.specs.Folders.{path}
@@ -44,20 +45,21 @@ pub data IsErrorText (reads : List ℕ → Type 0) : List ℕ → Type 0 where
   says_memory : IsErrorText reads memory_text
   says_write_fault : IsErrorText reads write_fault_text
   says_read_fault : (name : List ℕ) → reads name → IsErrorText reads (read_fault_text name)
-  says_refused : (folder : List ℕ) (fault : LoadFault) → ((file : File) → reads (path folder file)) → IsErrorText reads (refusal_text folder fault)
+  says_refused : (name why : List ℕ) → reads name → IsErrorText reads (refused_text name why)
 
 -- What was appended to the error stream with an answer that tells a fault. A read fault names a file that is read,
 -- and the one last asked for, where that is told. Where the error stream failed too, a prefix of one text stands there.
-abbrev pub TellsFault : (List ℕ → Type 0) → Option (List ℕ) → Type 0 → Option (List ℕ) → Option (List ℕ) → Status → Type 0
-TellsFault reads last rose before after answer.ReadFault =
-    (name : List ℕ) × reads name × IfSome last (λ asked. asked ≡ name) × (after ≡ append_known before (read_fault_text name))
-TellsFault reads last rose before after answer.Memory = after ≡ append_known before memory_text
-TellsFault reads last rose before after answer.WriteFault =
-    (after ≡ append_known before write_fault_text) ⊎ (rose × ((text : List ℕ) × IsErrorText reads text × AppendsPrefix before after text))
-TellsFault reads last rose before after answer.Clean = ⊤
-TellsFault reads last rose before after answer.Found = ⊤
-TellsFault reads last rose before after answer.Usage = ⊤
-TellsFault reads last rose before after answer.Refused = ⊤
+abbrev pub TellsFault : (List ℕ → Type 0) → Option (List ℕ) → SinkState → SinkState → Status → Type 0
+TellsFault reads last before after answer.ReadFault =
+    (name : List ℕ) × reads name × IfSome last (λ asked. asked ≡ name) × (after.written ≡ append_known before.written (read_fault_text name))
+TellsFault reads last before after answer.Memory = after.written ≡ append_known before.written memory_text
+TellsFault reads last before after answer.WriteFault =
+    (after.written ≡ append_known before.written write_fault_text)
+    ⊎ (Rose before.faults after.faults × ((text : List ℕ) × IsErrorText reads text × AppendsPrefix before.written after.written text))
+TellsFault reads last before after answer.Clean = ⊤
+TellsFault reads last before after answer.Found = ⊤
+TellsFault reads last before after answer.Usage = ⊤
+TellsFault reads last before after answer.Refused = ⊤
 
 -- the answers of a request that was carried out to the end of its files
 abbrev pub IsCarriedOut : Status → Type 0
@@ -90,20 +92,21 @@ IsWithoutRequest answer.Memory = ⊤
 IsWithoutRequest answer.Refused = ⊥
 
 -- a text was written whole and the answer is the one meant; or a put failed, and a prefix of it was written
-abbrev pub Says : List ℕ → Status → Type 0 → Option (List ℕ) → Option (List ℕ) → Status → Type 0
-Says text meant rose before after result =
-    ((result ≡ meant) × (after ≡ append_known before text)) ⊎ ((result ≡ answer.WriteFault) × rose × AppendsPrefix before after text)
+abbrev pub Says : List ℕ → Status → SinkState → SinkState → Status → Type 0
+Says text meant before after result =
+    ((result ≡ meant) × (after.written ≡ append_known before.written text))
+    ⊎ ((result ≡ answer.WriteFault) × Rose before.faults after.faults × AppendsPrefix before.written after.written text)
 
 -- a fault was told by its own text, and its own answer is meant
-abbrev pub SaysFault : Fault → List ℕ → Type 0 → Option (List ℕ) → Option (List ℕ) → Status → Type 0
-SaysFault fault.Read file rose before after result = Says (read_fault_text file) answer.ReadFault rose before after result
-SaysFault fault.Write file rose before after result = Says write_fault_text answer.WriteFault rose before after result
-SaysFault fault.Memory file rose before after result = Says memory_text answer.Memory rose before after result
+abbrev pub SaysFault : Fault → List ℕ → SinkState → SinkState → Status → Type 0
+SaysFault fault.Read file before after result = Says (read_fault_text file) answer.ReadFault before after result
+SaysFault fault.Write file before after result = Says write_fault_text answer.WriteFault before after result
+SaysFault fault.Memory file before after result = Says memory_text answer.Memory before after result
 
 -- a timetable's fault was told: a read fault by the name of its file, want of memory, or why it is refused, for which
 -- memory may be wanted
-abbrev pub SaysLoadFault : List ℕ → LoadFault → Type 0 → Option (List ℕ) → Option (List ℕ) → Status → Type 0
-SaysLoadFault folder (load.ReadFault file) rose before after result = Says (read_fault_text (path folder file)) answer.ReadFault rose before after result
-SaysLoadFault folder load.Memory rose before after result = Says memory_text answer.Memory rose before after result
-SaysLoadFault folder fault rose before after result =
-    Says (refusal_text folder fault) answer.Refused rose before after result ⊎ Says memory_text answer.Memory rose before after result
+abbrev pub SaysLoadFault : List ℕ → LoadFault → SinkState → SinkState → Status → Type 0
+SaysLoadFault folder (load.ReadFault file) before after result = Says (read_fault_text (path folder file)) answer.ReadFault before after result
+SaysLoadFault folder load.Memory before after result = Says memory_text answer.Memory before after result
+SaysLoadFault folder fault before after result =
+    Says (refusal_text folder fault) answer.Refused before after result ⊎ Says memory_text answer.Memory before after result

@@ -1,6 +1,6 @@
 -- The rules on the header of a snapshot, and the findings that they give.
 -- (This profile. The numbers are those of MobilityData's gtfs-realtime-validator, RULES.md.)
-use Rattle.std.specs.Prelude.{ℕ, ℤ, pos, negsuc, List, [], ◌∷◌, map, Bool, true, false, not, ◌&&◌, codes, Option, Some, None, slice_get, take}
+use Rattle.std.specs.Prelude.{ℕ, ℤ, pos, negsuc, List, [], ◌∷◌, map, Bool, true, false, not, ◌&&◌, ◌||◌, codes, Option, Some, None, slice_get, take}
 use Rattle.std.specs.List.{filter, list_all}
 use Rattle.std.specs.Str.{bytes_eq}
 use Rattle.feed_values.specs.Schema.{Value}
@@ -37,9 +37,13 @@ name E038 = codes "E038"
 name E048 = codes "E048"
 name E049 = codes "E049"
 
--- the first letter of a rule's name: E, an error
+-- the first letter of a rule's name: E, an error, W, a warning, or X, an error of this profile
 abbrev pub level : HeaderRule → List ℕ
 level rule = take 1 (name rule)
+
+-- a rule of level E or X
+abbrev pub is_error : HeaderRule → Bool
+is_error rule = bytes_eq (level rule) (codes "E") || bytes_eq (level rule) (codes "X")
 
 abbrev pub path : HeaderSlot → List ℕ
 path Version = codes "header.gtfs_realtime_version"

@@ -1,4 +1,5 @@
 pub mod Report
+pub mod Exits
 pub mod Words
 pub mod Inputs
 pub mod Lines
@@ -6,4 +7,5 @@ pub mod LineValues
 pub mod HeaderRules
 pub mod Judged
 pub mod Faults
+pub mod Outside
 pub mod Carried

@@ -1,7 +1,7 @@
 -- What a run is to write and to answer: a function of the words, the moment and what the files hold.
 -- It doesn't see how the bytes arrive. (This profile.)
-use Rattle.std.specs.Prelude.{ℕ, List, [], ◌∷◌, ◌++◌, length, codes, Option, Some, None}
-use Rattle.std.specs.List.{flat_map}
+use Rattle.std.specs.Prelude.{ℕ, Bool, List, [], ◌∷◌, ◌++◌, length, codes, if◌then◌else◌, Option, Some, None}
+use Rattle.std.specs.List.{flat_map, list_any}
 use Rattle.std.specs.FinMap.{get}
 use Rattle.rt_outside.specs.Store.{Contents}
 use Rattle.feed_values.specs.Schema.{Value}
@@ -15,7 +15,7 @@ use Rattle.rt_command.specs.declared.lines.Accepted.{Accepted}
 use Rattle.rt_command.specs.declared.request.Request.{Request}
 use Rattle.rt_command.specs.declared.status.Status.{Status}
 use Rattle.rt_command.specs.declared.status.Status.TheVariants as answer
-use Rattle.rt_command.specs.HeaderRules.{findings}
+use Rattle.rt_command.specs.HeaderRules.{findings, is_error}
 use Rattle.rt_command.specs.Lines.{accepted_line, refused_line, finding_line}
 use Rattle.rt_command.specs.Inputs.{timetable_refusal}
 use Rattle.rt_command.specs.Words.{request, folder_of, files_of, moment_of}
@@ -43,10 +43,13 @@ first_snapshot moment entities = record {
   bounded = entities;
 }
 
--- each rule on headers is an error, so any finding counts
+-- whether a finding is of an error
+abbrev pub has_error : List Finding → Bool
+has_error findings = list_any (λ finding. is_error finding.rule) findings
+
+-- the answer that findings give
 abbrev pub found : List Finding → Status
-found [] = answer.Clean
-found (finding ∷ more) = answer.Found
+found findings = if has_error findings then answer.Found else answer.Clean
 
 -- an accepted snapshot is a line, and then its findings
 abbrev pub accepted_report : ℕ → Value feed_header → ℕ → Report

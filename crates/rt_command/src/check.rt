@@ -7,6 +7,7 @@ ghost use Rattle.rt_outside.specs.Sink.{AppendsPrefix};
 ghost use Rattle.rt_outside.specs.Store.{contents_told};
 ghost use Rattle.rt_command.specs.Report.{snapshot_report, files_report, check_report};
 ghost use Rattle.rt_command.specs.Carried.{CarriesOut};
+ghost use Rattle.rt_command.specs.Outside.{outside};
 ghost use Rattle.rt_command.specs.Faults.{IsCarriedOut, IsInput};
 
 use crate::fault::Fault;
@@ -35,10 +36,8 @@ pub fn check<F: Files, S: Sink, E: Sink>(
     requires { length names.now ≡ 1 }
     ensures { CarriesOut (check_report (option_copied folder.entry) moment names.now)
         (IsInput (option_copied folder.entry) names.now)
-        (contents_told (F.state files.old).told) (F.state files.new).asked
-        (Rose (F.state files.old).faults (F.state files.new).faults)
-        (Rose (S.state out.old).faults (S.state out.new).faults) (Rose (E.state err.old).faults (E.state err.new).faults)
-        (S.state out.old).written (S.state out.new).written (E.state err.old).written (E.state err.new).written result }
+        (outside (F.state files.old) (S.state out.old) (E.state err.old))
+        (outside (F.state files.new) (S.state out.new) (E.state err.new)) result }
 {
     match folder {
         None => check_first(alloc, moment, names, files, out, err),
@@ -63,10 +62,8 @@ fn check_first<F: Files, S: Sink, E: Sink>(
 ) -> Status
     requires { length names.now ≡ 1 }
     ensures { CarriesOut (files_report moment names.now) (Contains names.now)
-        (contents_told (F.state files.old).told) (F.state files.new).asked
-        (Rose (F.state files.old).faults (F.state files.new).faults)
-        (Rose (S.state out.old).faults (S.state out.new).faults) (Rose (E.state err.old).faults (E.state err.new).faults)
-        (S.state out.old).written (S.state out.new).written (E.state err.old).written (E.state err.new).written result }
+        (outside (F.state files.old) (S.state out.old) (E.state err.old))
+        (outside (F.state files.new) (S.state out.new) (E.state err.new)) result }
 {
     check_file(alloc, moment, names.as_slice()[0].as_str(), files, out, err)
 }
@@ -81,10 +78,8 @@ fn check_file<F: Files, S: Sink, E: Sink>(
     err: &mut E,
 ) -> Status
     ensures { CarriesOut (files_report moment (file.now ∷ [])) (Contains (file.now ∷ []))
-        (contents_told (F.state files.old).told) (F.state files.new).asked
-        (Rose (F.state files.old).faults (F.state files.new).faults)
-        (Rose (S.state out.old).faults (S.state out.new).faults) (Rose (E.state err.old).faults (E.state err.new).faults)
-        (S.state out.old).written (S.state out.new).written (E.state err.old).written (E.state err.new).written result }
+        (outside (F.state files.old) (S.state out.old) (E.state err.old))
+        (outside (F.state files.new) (S.state out.new) (E.state err.new)) result }
 {
     match write_report(alloc, moment, file, files, out) {
         Ok(status) => status,

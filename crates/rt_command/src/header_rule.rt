@@ -1,6 +1,6 @@
 //! The rules on the header of a snapshot, as the rows of a table.
 ghost use Rattle.std.specs.Prelude.{◌≡◌};
-ghost use Rattle.rt_command.specs.HeaderRules.{row, name, level, path};
+ghost use Rattle.rt_command.specs.HeaderRules.{row, name, level, is_error, path};
 
 /// A slot of the header.
 #[derive(Clone, Copy, Debug, PartialEq, Eq)]
@@ -100,5 +100,12 @@ impl HeaderRule {
         match self {
             HeaderRule::E038 | HeaderRule::E048 | HeaderRule::E049 => "E",
         }
+    }
+
+    /// Whether its level is `E` or `X`.
+    pub fn is_error(self) -> bool
+        ensures { result ≡ is_error self }
+    {
+        self.level() == "E" || self.level() == "X"
     }
 }

@@ -4,7 +4,7 @@ ghost use Rattle.std.specs.FinMap.{get};
 ghost use Rattle.rt_outside.specs.Causes.{Rose};
 ghost use Rattle.rt_outside.specs.Store.{contents_told};
 ghost use Rattle.feed_values.specs.Views.{feed_header_value};
-ghost use Rattle.rt_command.specs.Report.{snapshot_report, judged_report, accepted_report, refused_report, first_snapshot, found};
+ghost use Rattle.rt_command.specs.Report.{snapshot_report, judged_report, accepted_report, refused_report, first_snapshot, found, has_error};
 ghost use Rattle.feed_codec.specs.Refusal.{refusal};
 ghost use Rattle.rt_command.specs.Judged.{IsJudged};
 ghost use Rattle.rt_command.specs.Faults.{IsCarriedOut};
@@ -79,11 +79,18 @@ fn accepted(alloc: Global, moment: u64, message: &FeedMessage) -> Result<Judged,
 fn found(findings: &[Finding]) -> Status
     ensures { result ≡ found findings.now }
 {
-    if findings.is_empty() {
-        Status::Clean
-    } else {
+    if has_error(findings) {
         Status::Found
+    } else {
+        Status::Clean
     }
+}
+
+// Whether a finding is of an error.
+fn has_error(findings: &[Finding]) -> bool
+    ensures { result ≡ has_error findings.now }
+{
+    findings.iter().any(|finding| finding.rule.is_error())
 }
 
 // The numbers of the first snapshot of a run, whose entities are all new.

@@ -113,5 +113,5 @@ fn main(rt: HostRuntime) -> ExitCode {
         Ok(words) => run_outside::<Brand, Brand>(&rt, &words, Blank::new(1), Blank::new(1)),
         Err(_) => Status::Memory,
     };
-    ExitCode::from(status as u8)
+    ExitCode::from(status.number())
 }

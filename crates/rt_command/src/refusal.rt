@@ -1,6 +1,5 @@
 //! Why a timetable isn't loaded.
 ghost use Rattle.std.specs.Prelude.{◌≡◌, IfOk, string_bytes};
-ghost use Rattle.rt_outside.specs.Causes.{Rose};
 ghost use Rattle.rt_command.specs.Inputs.{refusal_text};
 ghost use Rattle.rt_command.specs.Faults.{SaysLoadFault};
 
@@ -12,8 +11,7 @@ use timetable::LoadFault;
 
 /// Tells why the timetable in a folder isn't loaded, and answers it.
 pub fn say_load_fault<E: Sink>(alloc: Global, err: &mut E, folder: &str, fault: LoadFault) -> Status
-    ensures { SaysLoadFault folder.now fault (Rose (E.state err.old).faults (E.state err.new).faults)
-        (E.state err.old).written (E.state err.new).written result }
+    ensures { SaysLoadFault folder.now fault (E.state err.old) (E.state err.new) result }
 {
     match fault {
         LoadFault::ReadFault(file) => say_read_fault_in(err, folder, file.name()),

@@ -7,6 +7,7 @@ ghost use Rattle.rt_outside.specs.Store.{contents_told};
 ghost use Rattle.rt_command.specs.Words.{request, files_of};
 ghost use Rattle.rt_command.specs.Report.{report, asked_report};
 ghost use Rattle.rt_command.specs.Carried.{CarriesOut};
+ghost use Rattle.rt_command.specs.Outside.{outside};
 ghost use Rattle.rt_command.specs.Faults.{Reads, IsReported, IsWithoutRequest, TellsFault};
 
 use crate::check::check;
@@ -30,7 +31,7 @@ const USAGE: &[u8] = b"usage: rt_command check [--timetable DIR] [--now N] FILE.
 /// time in seconds.
 ///
 /// Want of memory is the one answer that may come at any time. The two counters, of decodings and
-/// of rule tests, are for the engine that follows feeds; no command counts on them yet.
+/// of rule tests, are for the engine that follows feeds.
 pub fn run<F: Files, S: Sink, E: Sink, D: Ledger, T: Ledger>(
     alloc: Global,
     words: &[String],
@@ -68,7 +69,11 @@ pub fn run<F: Files, S: Sink, E: Sink, D: Ledger, T: Ledger>(
 
     // Each fault is told on the error stream.
     ensures told { TellsFault (Reads (request (map string_bytes words.now))) (F.state files.new).asked
-        (Rose (E.state err.old).faults (E.state err.new).faults) (E.state err.old).written (E.state err.new).written result }
+        (E.state err.old) (E.state err.new) result }
+
+    // No command decodes or tests through the counters yet.
+    ensures decodes { decodes.new ≡ decodes.old }
+    ensures tests { tests.new ≡ tests.old }
 {
     match words_of(alloc, words) {
         Err(_) => say_memory(err),
@@ -88,10 +93,8 @@ fn carry_out<F: Files, S: Sink, E: Sink>(
 ) -> Status
     requires { length (files_of request.now) ≡ 1 }
     ensures { CarriesOut (asked_report request.now now) (Reads (Some request.now))
-        (contents_told (F.state files.old).told) (F.state files.new).asked
-        (Rose (F.state files.old).faults (F.state files.new).faults)
-        (Rose (S.state out.old).faults (S.state out.new).faults) (Rose (E.state err.old).faults (E.state err.new).faults)
-        (S.state out.old).written (S.state out.new).written (E.state err.old).written (E.state err.new).written result }
+        (outside (F.state files.old) (S.state out.old) (E.state err.old))
+        (outside (F.state files.new) (S.state out.new) (E.state err.new)) result }
 {
     check(
         alloc,

@@ -1,7 +1,7 @@
 //! Texts on the error stream.
 ghost use Rattle.std.specs.Prelude.{◌≡◌, ◌∷◌, ◌++◌, OnOk, OnErr};
 ghost use Rattle.std.specs.Io.KnownBytes.{append_known};
-ghost use Rattle.rt_outside.specs.Causes.{HasCause, Rose};
+ghost use Rattle.rt_outside.specs.Causes.{HasCause};
 ghost use Rattle.rt_outside.specs.Sink.{AppendsPrefix};
 ghost use Rattle.rt_command.specs.Faults.{Says, SaysFault, memory_text, read_fault_text};
 
@@ -11,8 +11,7 @@ use rt_outside::{Failed, Sink, put_all};
 
 /// Writes a text, and answers what it means, or `WriteFault` where a put fails.
 pub fn say<E: Sink>(err: &mut E, text: &[u8], meant: Status) -> Status
-    ensures { Says text.now meant (Rose (E.state err.old).faults (E.state err.new).faults)
-        (E.state err.old).written (E.state err.new).written result }
+    ensures { Says text.now meant (E.state err.old) (E.state err.new) result }
 {
     match put_all(err, text) {
         Ok(()) => meant,
@@ -22,16 +21,14 @@ pub fn say<E: Sink>(err: &mut E, text: &[u8], meant: Status) -> Status
 
 /// Tells that no memory was found, and answers so, or `WriteFault` where a put fails.
 pub fn say_memory<E: Sink>(err: &mut E) -> Status
-    ensures { Says memory_text Status.Memory (Rose (E.state err.old).faults (E.state err.new).faults)
-        (E.state err.old).written (E.state err.new).written result }
+    ensures { Says memory_text Status.Memory (E.state err.old) (E.state err.new) result }
 {
     say(err, b"out of memory\n", Status::Memory)
 }
 
 /// Tells a fault, and answers it. A read fault is that of `file`.
 pub fn say_fault<E: Sink>(err: &mut E, fault: Fault, file: &str) -> Status
-    ensures { SaysFault fault file.now (Rose (E.state err.old).faults (E.state err.new).faults)
-        (E.state err.old).written (E.state err.new).written result }
+    ensures { SaysFault fault file.now (E.state err.old) (E.state err.new) result }
 {
     match fault {
         Fault::Read => say_read_fault(err, file),
@@ -43,7 +40,7 @@ pub fn say_fault<E: Sink>(err: &mut E, fault: Fault, file: &str) -> Status
 // Writes that the file of this name couldn't be read. It takes no memory for the text.
 fn say_read_fault<E: Sink>(err: &mut E, name: &str) -> Status
     ensures { Says (read_fault_text name.now) Status.ReadFault
-        (Rose (E.state err.old).faults (E.state err.new).faults) (E.state err.old).written (E.state err.new).written result }
+        (E.state err.old) (E.state err.new) result }
 {
     match put_three(err, b"read fault: ", name.as_bytes(), b"\n") {
         Ok(()) => Status::ReadFault,
@@ -55,7 +52,7 @@ fn say_read_fault<E: Sink>(err: &mut E, name: &str) -> Status
 /// fails. It takes no memory for the text.
 pub fn say_read_fault_in<E: Sink>(err: &mut E, folder: &str, file: &str) -> Status
     ensures { Says (read_fault_text (folder.now ++ 47 ∷ file.now)) Status.ReadFault
-        (Rose (E.state err.old).faults (E.state err.new).faults) (E.state err.old).written (E.state err.new).written result }
+        (E.state err.old) (E.state err.new) result }
 {
     match put_read_fault_in(err, folder.as_bytes(), file.as_bytes()) {
         Ok(()) => Status::ReadFault,

@@ -1,6 +1,8 @@
 //! How a run ends.
+ghost use Rattle.std.specs.Prelude.{◌≡◌};
+ghost use Rattle.rt_command.specs.Exits.{exit_number};
 
-/// What a run answers. The program's exit status is the variant's place, from 0.
+/// What a run answers.
 #[derive(Clone, Copy, Debug, PartialEq, Eq)]
 pub enum Status {
     /// The request was carried out, no snapshot was refused, and no error was found.
@@ -17,4 +19,21 @@ pub enum Status {
     Memory,
     /// The timetable was refused.
     Refused,
+}
+
+impl Status {
+    /// The exit status of the program.
+    pub fn number(self) -> u8
+        ensures { result ≡ exit_number self }
+    {
+        match self {
+            Status::Clean => 0,
+            Status::Found => 1,
+            Status::Usage => 2,
+            Status::ReadFault => 3,
+            Status::WriteFault => 4,
+            Status::Memory => 5,
+            Status::Refused => 6,
+        }
+    }
 }

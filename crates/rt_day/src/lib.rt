@@ -17,6 +17,3 @@ pub use day::{Day, weekday, year_in_range};
 pub use digits::parse_digits;
 pub use laws::{date_is_its_parts, time_is_its_parts};
 pub use time::parse_time;
-
-#[cfg(test)]
-mod tests;

@@ -64,6 +64,3 @@ pub use records::Records;
 pub use service_row::ServiceRow;
 pub use stop_time::StopTime;
 pub use timetable::{ServiceNo, Timetable, TripNo};
-
-#[cfg(test)]
-mod tests;

@@ -9,25 +9,25 @@ use Rattle.rt_command.proofs.check.check.Goals as goal
 
 pub returns-in-None : goal.returns-in-None
 returns-in-None g c =
-    carried_at None (option_copied c.args.folder) c.args.moment _ c.args.names.now _ _ _ _ _ _ _ _ _ _ c.check_first.result (ap option_copied (sym c.in-None.is)) refl refl
+    carried_at None (option_copied c.args.folder) c.args.moment _ c.args.names.now _ _ _ c.check_first.result (ap option_copied (sym c.in-None.is)) refl refl
     (carried_within (files_report c.args.moment c.args.names.now) (check_report None c.args.moment c.args.names.now) (Contains c.args.names.now)
-    (IsInput None c.args.names.now) _ _ _ _ _ _ _ _ _ c.check_first.result (λ name is. inl is) (λ rose. rose) _ _ refl
+    (IsInput None c.args.names.now) _ _ _ _ c.check_first.result (λ name is. inl is) _ (λ rose. rose) refl
     (no_timetable _ c.args.moment c.args.names.now) c.check_first.ensures)
 
 pub returns-in-Ok : goal.returns-in-Ok
 returns-in-Ok g c =
-    carried_at (Some c.as_str-folder.result.now) (option_copied c.args.folder) c.args.moment _ c.args.names.now _ _ _ _ _ _ _ _ _ _ c.check_first-in-Ok.result
+    carried_at (Some c.as_str-folder.result.now) (option_copied c.args.folder) c.args.moment _ c.args.names.now _ _ _ c.check_first-in-Ok.result
     (ap Some c.as_str-folder.ensures ∙ ap option_copied (sym c.in-Some.is)) refl refl
     (carried_within (files_report c.args.moment c.args.names.now) (check_report (Some c.as_str-folder.result.now) c.args.moment c.args.names.now)
-    (Contains c.args.names.now) (IsInput (Some c.as_str-folder.result.now) c.args.names.now) _ _ _ _ _ _ _ _ _ c.check_first-in-Ok.result (λ name is. inl is)
-    (rose_before _ _ _ c.load.ensures.later) _ _ c.load.ensures.contents
+    (Contains c.args.names.now) (IsInput (Some c.as_str-folder.result.now) c.args.names.now) _ _ _ _ c.check_first-in-Ok.result (λ name is. inl is) _
+    (rose_before _ _ _ c.load.ensures.later) c.load.ensures.contents
     (accepted_timetable _ c.as_str-folder.result.now c.args.moment c.args.names.now _ c.in-Ok.ensures.ok) c.check_first-in-Ok.ensures)
 
 pub returns-in-Err : goal.returns-in-Err
 returns-in-Err g c =
-    carried_at (Some c.as_str-folder.result.now) (option_copied c.args.folder) c.args.moment _ c.args.names.now _ _ _ _ _ _ _ _ _ _ c.say_load_fault.result
+    carried_at (Some c.as_str-folder.result.now) (option_copied c.args.folder) c.args.moment _ c.args.names.now _ _ _ c.say_load_fault.result
     (ap Some c.as_str-folder.ensures ∙ ap option_copied (sym c.in-Some.is)) refl refl
-    (carried_load_fault (check_report (Some c.as_str-folder.result.now) c.args.moment c.args.names.now) (IsInput (Some c.as_str-folder.result.now) c.args.names.now) _ _ _ _ _ _ _ _
-    c.say_load_fault.result c.as_str-folder.result.now (λ file. inr (file, refl)) c.in-Err.fault
+    (carried_load_fault (check_report (Some c.as_str-folder.result.now) c.args.moment c.args.names.now) (IsInput (Some c.as_str-folder.result.now) c.args.names.now)
+    _ _ _ _ _ c.say_load_fault.result c.as_str-folder.result.now (λ file. inr (file, refl)) c.in-Err.fault
     (λ read memory. refused_timetable _ c.as_str-folder.result.now c.args.moment c.args.names.now c.in-Err.fault (c.in-Err.ensures.err memory read))
     (λ file e. (c.in-Err.ensures.cause file (ap Err e), c.in-Err.ensures.asked file (ap Err e))) c.say_load_fault.ensures)

@@ -4,5 +4,5 @@ use Rattle.rt_command.proofs.check.check_file.Goals as goal
 
 pub returns-in-Err : goal.returns-in-Err
 returns-in-Err g c =
-    carried_fault _ _ _ _ _ _ _ _ _ _ _ c.say_fault.result c.in-Err.ensures.text c.in-Err.fault c.args.file.now (0, omega arith, refl)
+    carried_fault _ _ _ _ c.say_fault.result c.in-Err.ensures.text c.in-Err.fault c.args.file.now (0, omega arith, refl)
     (λ e. c.in-Err.ensures.read (search rules)) (λ e. c.in-Err.ensures.write (search rules)) c.in-Err.ensures.asked c.say_fault.ensures

@@ -4,6 +4,6 @@ use Rattle.rt_command.proofs.check.check_first.Goals as goal
 
 pub returns : goal.returns
 returns g c =
-    carried_names c.args.moment _ c.args.names.now _ _ _ _ _ _ _ _ _ c.check_file.result
+    carried_names c.args.moment _ c.args.names.now _ _ c.check_file.result
     (one_name c.args.names.now c.as_slice.result.now c.index-as_slice-0.result c.as_str.result.now c.requires c.as_slice.ensures c.index-as_slice-0.is c.as_str.ensures)
     c.check_file.ensures

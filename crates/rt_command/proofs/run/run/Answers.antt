@@ -1,6 +1,5 @@
 use Rattle.std.proofs.Common.{◌≡◌, map, string_bytes, subst}
 use Rattle.std.specs.Io.KnownBytes.{append_known}
-use Rattle.rt_outside.specs.Causes.{Rose}
 use Rattle.rt_outside.specs.Sink.{AppendsPrefix}
 use Rattle.rt_command.specs.declared.status.Status.TheVariants as answer
 use Rattle.rt_command.specs.Faults.{says_memory, says_usage, Reads, TellsFault}
@@ -9,14 +8,14 @@ use Rattle.rt_command.proofs.Told.{tells, usage_told, report_told}
 use Rattle.rt_command.proofs.run.run.Goals as goal
 
 pub returns-in-Err-clause-told : goal.returns-in-Err-clause-told
-returns-in-Err-clause-told g c = tells _ _ _ _ _ _ answer.Memory c.say_memory.result says_memory (λ w. w) c.say_memory.ensures
+returns-in-Err-clause-told g c = tells _ _ _ _ _ answer.Memory c.say_memory.result says_memory (λ w. w) c.say_memory.ensures
 
 pub returns-in-Ok-None-clause-errors : goal.returns-in-Ok-None-clause-errors
 returns-in-Ok-None-clause-errors g c reported =
-    usage_told _ _ _ _ _ _ _ (rw c.in-Ok-None.field-0-is at c.in-Ok-None.ensures) c.say.ensures reported
+    usage_told _ _ _ _ _ _ (rw c.in-Ok-None.field-0-is at c.in-Ok-None.ensures) c.say.ensures reported
 
 pub returns-in-Ok-None-clause-told : goal.returns-in-Ok-None-clause-told
-returns-in-Ok-None-clause-told g c = tells _ _ _ _ _ _ answer.Usage c.say.result says_usage (λ w. tt) c.say.ensures
+returns-in-Ok-None-clause-told g c = tells _ _ _ _ _ answer.Usage c.say.result says_usage (λ w. tt) c.say.ensures
 
 pub returns-in-Ok-Some-clause-text : goal.returns-in-Ok-Some-clause-text
 returns-in-Ok-Some-clause-text g c =
@@ -35,8 +34,7 @@ returns-in-Ok-Some-clause-errors g c reported =
 
 pub returns-in-Ok-Some-clause-told : goal.returns-in-Ok-Some-clause-told
 returns-in-Ok-Some-clause-told g c =
-    subst (λ asked. TellsFault (Reads asked) (g.F.Files.state c.carry_out.new.files).asked
-    (Rose (g.E.Sink.state c.args.err.now).faults (g.E.Sink.state c.carry_out.new.err).faults) (g.E.Sink.state c.args.err.now).written (g.E.Sink.state c.carry_out.new.err).written c.carry_out.result)
+    subst (λ asked. TellsFault (Reads asked) (g.F.Files.state c.carry_out.new.files).asked (g.E.Sink.state c.args.err.now) (g.E.Sink.state c.carry_out.new.err) c.carry_out.result)
     (rw c.in-Ok-Some.field-0-is at c.in-Ok-Some.ensures) c.carry_out.ensures.told
 
 pub carry_out-requires : goal.carry_out-requires

@@ -1,10 +1,10 @@
 //! The first fault of files that are refused.
 
-use crate::tests::{Named, fault_of, town, town_with};
-use crate::{Column, File, LoadFault};
+use crate::timetables::{Named, fault_of, town, town_with};
 use std::alloc::Global;
 use std::process::Abort;
 use std::test::Fail;
+use timetable::{Column, File, LoadFault};
 
 /// A file that replaces a town's own, and the fault that follows.
 type Case = (&'static str, &'static [u8], Option<LoadFault>);

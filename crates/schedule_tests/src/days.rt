@@ -2,7 +2,7 @@
 //! Python's `datetime.date` (proleptic Gregorian; its day number is `toordinal() - 719163`). Python has no
 //! year 0: 00000101 is 366 days before 00010101.
 
-use crate::{Day, parse_date, parse_digits, parse_time, weekday, year_in_range};
+use rt_day::{Day, parse_date, parse_digits, parse_time, weekday, year_in_range};
 
 #[test]
 fn numbers_are_digits_alone(rt: HostRuntime) {

@@ -1,12 +1,13 @@
 //! Files that are absent, too large, or not read.
 
-use crate::folder::Source;
-use crate::tests::{DATES, FILES, TOWN, fault_of, town_with};
-use crate::timetable::Loaded;
-use crate::{File, LoadFault, Timetable};
-use rt_outside::MemoryFiles;
+use crate::timetables::{DATES, FILES, TOWN, fault_of};
+use rt_outside::{Failed, Files, MemoryFiles, Opening};
 use std::alloc::Global;
 use std::test::Fail;
+use timetable::{LoadFault, Timetable};
+
+/// The greatest size of a file, in bytes.
+const LIMIT: usize = 536_870_912;
 
 /// All eight files of a town but one.
 fn town_without(alloc: Global, absent: &str) -> Result<MemoryFiles, Fail> {
@@ -44,11 +45,57 @@ fn an_absent_timetable_is_not_present(rt: HostRuntime) {
     assert!(rt; table.trip("T1").is_none());
 }
 
-/// The fault of a town whose files have at most so many bytes.
-fn fault_within(alloc: Global, mut files: MemoryFiles, limit: usize) -> Option<LoadFault> {
-    match Loaded::load(alloc, &mut files, "town", limit) {
-        Ok(_) => None,
-        Err(fault) => Some(fault),
+/// A town with all eight files, of which one is lengthened by line feeds, which are no rows, to `size` bytes.
+#[derive(Drop)]
+struct Lengthened {
+    files: MemoryFiles,
+    name: &'static str,
+    size: usize,
+    given: Option<usize>,
+}
+
+impl Files for Lengthened {
+    ghost use Rattle.std.specs.Prelude.{None};
+
+    ghost state = { λ _. record { told = None; asked = None; faults = 0 } };
+
+    fn open_file(&mut self, name: &str) -> Opening {
+        self.given = if name == self.name { Some(0) } else { None };
+        self.files.open_file(name)
+    }
+
+    fn pull(&mut self, buf: &mut [u8]) -> Result<usize, Failed> {
+        let count = self.files.pull(buf)?;
+        let Some(given) = self.given else {
+            return Ok(count);
+        };
+        let count = if count == 0 {
+            let more = buf.len().min(self.size.saturating_sub(given));
+            buf[..more].fill(b'\n');
+            more
+        } else {
+            count
+        };
+        self.given = Some(given.saturating_add(count));
+        Ok(count)
+    }
+}
+
+/// The fault of a town of which this file has so many bytes.
+fn fault_at_size(
+    alloc: Global,
+    name: &'static str,
+    size: usize,
+) -> Result<Option<LoadFault>, Fail> {
+    let mut files = Lengthened {
+        files: town_without(alloc, "")?,
+        name,
+        size,
+        given: None,
+    };
+    match Timetable::load(alloc, &mut files, "town") {
+        Ok(_) => Ok(None),
+        Err(fault) => Ok(Some(fault)),
     }
 }
 
@@ -57,21 +104,16 @@ fn a_file_may_not_be_too_large(rt: HostRuntime) -> Result<(), Fail> {
     let alloc = rt.alloc();
     for (file, name, _) in FILES {
         let want = Some(LoadFault::TooLarge(file));
-        let files = town_with(alloc, name, &[b'x'; 301])?;
-        assert_eq!(rt; fault_within(alloc, files, 300), want, "{name}");
+        assert_eq!(rt; fault_at_size(alloc, name, LIMIT + 1)?, want, "{name}");
     }
     Ok(())
 }
 
 #[test]
 fn a_file_may_have_as_many_bytes_as_the_limit(rt: HostRuntime) -> Result<(), Fail> {
-    // The greatest file of a town is stop_times.txt, with 240 bytes.
-    let alloc = rt.alloc();
-    let too_large = Some(LoadFault::TooLarge(File::StopTimes));
-    assert_eq!(rt; fault_within(alloc, town_without(alloc, "")?, 240), None);
     assert_eq!(rt;
-        fault_within(alloc, town_without(alloc, "")?, 239),
-        too_large
+        fault_at_size(rt.alloc(), "town/stop_times.txt", LIMIT)?,
+        None
     );
     Ok(())
 }

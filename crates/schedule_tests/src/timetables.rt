@@ -6,10 +6,10 @@ mod files;
 mod lookups;
 mod wanted;
 
-use crate::{File, LoadFault, Timetable};
 use rt_outside::MemoryFiles;
 use std::alloc::Global;
 use std::test::Fail;
+use timetable::{File, LoadFault, Timetable};
 
 /// A file's name and bytes.
 type Named = (&'static str, &'static [u8]);

@@ -2,8 +2,8 @@
 
 ghost use Rattle.timetable.specs.Lookups.{IsStop, IsTrip};
 
-use crate::{Frequency, StopTime, Timetable, TripNo};
 use std::process::Abort;
+use timetable::{Frequency, StopTime, Timetable, TripNo};
 
 /// What is wanted of a trip.
 pub struct Wanted {

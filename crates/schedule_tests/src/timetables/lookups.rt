@@ -1,13 +1,13 @@
 //! Each look-up, on whole timetables.
 
-use crate::Timetable;
-use crate::tests::wanted::{Wanted, expect_frequencies, expect_none_at, expect_trip};
-use crate::tests::{DATES, Named, loaded_with, town};
+use crate::timetables::wanted::{Wanted, expect_frequencies, expect_none_at, expect_trip};
+use crate::timetables::{DATES, Named, loaded_with, town};
 use rt_day::Day;
 use rt_outside::MemoryFiles;
 use std::alloc::Global;
 use std::process::Abort;
 use std::test::Fail;
+use timetable::Timetable;
 
 /// The trips of a town.
 const TRIPS: [Wanted; 3] = [
