@@ -4,7 +4,7 @@
     apt-get install protobuf-compiler; python3 vectors/make.py
 
 Each .textproto is what a snapshot says; `protoc --encode` writes its bytes, fields in the order of their numbers.
-The rows stand in crates/feed_codec/src/vectors.rt.
+The rows stand in crates/feed_tests/src/vectors.rt.
 """
 import pathlib, subprocess
 

@@ -3,7 +3,7 @@
 
     apt-get install protobuf-compiler python3-protobuf; /usr/bin/python3 vectors/rewrite.py
 
-It prints the rows of the table in crates/feed_codec/src/rewrites.rt.
+It prints the rows of the table in crates/feed_tests/src/rewrites.rt.
 """
 import pathlib, subprocess, tempfile
 from google.protobuf import descriptor_pb2, descriptor_pool, message_factory

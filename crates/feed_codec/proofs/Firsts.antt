@@ -17,7 +17,7 @@ use Rattle.rt_wire.proofs.Whole.{spelled_is_read, read_is_spelled, join_is_read,
 use Rattle.feed_values.specs.Meaning.{payload_in, option_case}
 use Rattle.feed_codec.specs.declared.refusal.Refusal.{Refusal}
 use Rattle.feed_codec.specs.Refusal.{refused, shifted, own_fault, first_in, in_payload}
-use Rattle.feed_codec.specs.FirstFault.{GoesWrong, no_field, inside, FirstIn}
+use Rattle.feed_codec.specs.FirstFault.{FrontGoesWrong, no_field, inside, FirstIn}
 use Rattle.feed_codec.proofs.Bytes.{bytes_left, bytes_right, HasBytes, field_bytes, fields_bytes}
 use Rattle.feed_codec.proofs.ValidTexts.{nothing, neither, unmapped}
 
@@ -165,7 +165,7 @@ own_here : (wrong : ℕ → List ℕ → Option Refusal) (rest : List ℕ) (f : 
 own_here wrong rest f o =
     ap (first_in (in_payload wrong)) (fault_is_exact.answered [] [] rest f refl o ∙ ap (λ (t : List (Result PlacedField WireFault)). t ++ Err (fault_moved 0 f) ∷ []) nothing_read) ∙ ap (λ (at : ℕ). Some (refused at (own_fault f).reason)) (zero-add f.at)
 
-goes_wrong_first : {wrong : ℕ → List ℕ → Option Refusal} {Wrong : ℕ → List ℕ → Refusal → Type 0} {Whole : WireField → Type 0} → Agrees wrong Wrong Whole → (bytes : List ℕ) (r : Refusal) → IsBytes bytes → GoesWrong Wrong bytes r → first_in (in_payload wrong) (placed_fields bytes) ≡ Some r
+goes_wrong_first : {wrong : ℕ → List ℕ → Option Refusal} {Wrong : ℕ → List ℕ → Refusal → Type 0} {Whole : WireField → Type 0} → Agrees wrong Wrong Whole → (bytes : List ℕ) (r : Refusal) → IsBytes bytes → FrontGoesWrong Wrong bytes r → first_in (in_payload wrong) (placed_fields bytes) ≡ Some r
 goes_wrong_first {wrong = wrong} a bytes r ok (no_field f o e) = own_here wrong bytes f o ∙ ap (λ (x : Refusal). Some x) (sym e)
 goes_wrong_first {wrong = wrong} a bytes r ok (inside f spelled more p inner e s h w k) =
     let all : IsBytes (spelled ++ more) = rw e at ok in
@@ -200,7 +200,7 @@ one_more f spelled more r s whole w = record {
 }
 
 -- nothing in front
-at_once : {Whole : WireField → Type 0} {Wrong : ℕ → List ℕ → Refusal → Type 0} (bytes : List ℕ) (r : Refusal) → GoesWrong Wrong bytes r → FirstIn Whole Wrong bytes r
+at_once : {Whole : WireField → Type 0} {Wrong : ℕ → List ℕ → Refusal → Type 0} (bytes : List ℕ) (r : Refusal) → FrontGoesWrong Wrong bytes r → FirstIn Whole Wrong bytes r
 at_once bytes r w = record { fields = []; front = []; rest = bytes; bytes_are = refl; joins = refl; whole = tt; first = r; wrong = w; place = ap (λ (at : ℕ). refused at r.reason) (sym (zero-add r.at)) }
 
 pub either : (o q : Option Refusal) (r : Refusal) → option_or o q ≡ Some r → (o ≡ Some r) ⊎ ((o ≡ nothing) × (q ≡ Some r))

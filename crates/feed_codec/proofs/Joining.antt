@@ -27,40 +27,22 @@ use Rattle.feed_codec.proofs.Bytes.{bytes_left, bytes_right, bytes_concat, given
 use Rattle.feed_codec.proofs.Firsts.{none_faultless}
 use Rattle.feed_codec.proofs.ValidTexts.{nothing, neither, unmapped, fine_of}
 use Rattle.feed_codec.proofs.SnapshotFaults.{bytes_agree, parts_agree}
+use Rattle.feed_values.specs.Joined.{IsFieldList}
+use Rattle.feed_values.proofs.JoinedFields as joining
 use Rattle.feed_values.proofs.SnapshotFields.{fields_are}
 use Rattle.feed_codec.proofs.Snapshots.{complete_entities}
 use Rattle.feed_codec.proofs.WellFormedValues.{DefaultsFit, meaning_fits}
 
 -- ---- the fields of a join
 
-whole_append : (ps : List PlacedField) (tail : List (Result PlacedField WireFault)) → whole_fields (map (λ p. Ok p) ps ++ tail) ≡ map (λ p. p.field) ps ++ whole_fields tail
-whole_append [] tail = refl
-whole_append (p ∷ ps) tail = ap (λ (l : List WireField). p.field ∷ l) (whole_append ps tail)
-
-whole_moved : (n : ℕ) (parts : List (Result PlacedField WireFault)) → whole_fields (map (moved n) parts) ≡ whole_fields parts
-whole_moved n [] = refl
-whole_moved n (Ok p ∷ parts) = ap (λ (l : List WireField). p.field ∷ l) (whole_moved n parts)
-whole_moved n (Err f ∷ parts) = refl
-
-fields_nothing : fields [] ≡ []
-unfolding fields placed_fields placed_fields_from
-fields_nothing = refl
-
-fields_append : (l : List WireField) (front rest : List ℕ) → Joins (Spells 100) l front → fields (front ++ rest) ≡ l ++ fields rest
-unfolding fields
-fields_append l front rest j =
-    let h = spelled_is_read l front j in
-    ap whole_fields (join_is_read l front rest j ∙ ap (λ (t : List (Result PlacedField WireFault)). t ++ map (moved (length front)) (placed_fields rest)) h.all)
-    ∙ whole_append h.places (map (moved (length front)) (placed_fields rest))
-    ∙ ap (λ (t : List WireField). t ++ whole_fields (map (moved (length front)) (placed_fields rest))) h.fields
-    ∙ ap (λ (t : List WireField). l ++ t) (whole_moved (length front) (placed_fields rest))
+field_lists : (ps : List (List ℕ)) → IsBytes (concat ps) → Passed ps → AllByRecursion IsFieldList ps
+field_lists [] ok h = tt
+field_lists (p ∷ ps) ok h =
+    let m = (bytes_agree feed_header).none p (bytes_left p (concat ps) ok) h.0 in
+    ((m.0, m.1), field_lists ps (bytes_right p (concat ps) ok) h.1)
 
 pub fields_joined : (ps : List (List ℕ)) → IsBytes (concat ps) → Passed ps → fields (concat ps) ≡ flat_map fields ps
-fields_joined [] ok h = fields_nothing
-fields_joined (p ∷ ps) ok h =
-    let m = (bytes_agree feed_header).none p (bytes_left p (concat ps) ok) h.0 in
-    fields_append m.0 p (concat ps) m.1 ∙ ap (λ (t : List WireField). t ++ fields (concat ps)) (sym (fields_are m.0 p m.1))
-    ∙ ap (λ (t : List WireField). fields p ++ t) (fields_joined ps (bytes_right p (concat ps) ok) h.1)
+fields_joined ps ok h = joining.fields_joined ps (field_lists ps ok h)
 
 -- ---- texts
 

@@ -3,6 +3,7 @@ pub mod Merges
 pub mod ValidTexts
 pub mod Deep
 pub mod RequiredSlots
+pub mod MissingOrder
 pub mod Headers
 pub mod Snapshots
 pub mod Mapped

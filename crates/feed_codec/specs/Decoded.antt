@@ -1,4 +1,4 @@
--- What decoding answers.
+-- What decoding answers. (Protocol Buffers, Encoding; that a refusal goes before want of memory is this profile's.)
 use Rattle.std.specs.Prelude.{◌≡◌, Option, Some, None, Result, Ok, Err}
 use Rattle.feed_codec.specs.declared.refusal.Refusal.{Refusal}
 use Rattle.feed_codec.specs.declared.codec_fault.CodecFault.{CodecFault}

@@ -2,6 +2,7 @@ pub mod Refusal
 pub mod Decoded
 pub mod Merging
 pub mod Paths
+pub mod Missing
 pub mod Encoding
 pub mod EncodingLaws
 pub mod FirstFault

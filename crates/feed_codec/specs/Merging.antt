@@ -1,6 +1,7 @@
--- A message that takes its fields one by one. The definition of what fields mean stands in feed_values; a law says
--- that the two agree.
-use Rattle.std.specs.Prelude.{◌≡◌, ℕ, ℤ, pos, Bool, true, false, List, [], ◌∷◌, ◌++◌, Option, Some, None, Result, Ok, Err, ◌==◌, if◌then◌else◌}
+-- A message that takes its fields one by one. The definition of what fields mean stands in feed_values; the contract of `message_of` says
+-- that the two agree. (Protocol Buffers, Encoding, "Last One Wins", "Submessages", "Unknown Fields".)
+use Rattle.std.specs.Prelude.{◌≡◌, ℕ, ℤ, pos, Bool, true, false, List, [], ◌∷◌, ◌++◌, Option, Some, None, Result, Ok, Err, ◌==◌}
+use Rattle.std.specs.Prelude.{if◌then◌else◌}
 use Rattle.std.specs.Option.{option_map, unwrap_or}
 use Rattle.std.specs.Prelude.{IfSome}
 use Rattle.std.specs.Bool.{MatchBool}
@@ -37,8 +38,10 @@ merged_scalar presence t x = option_map (λ z. held presence (pos 0) (Some z)) (
 abbrev pub merged_text : (presence : Presence) → wire.WireValue → Option (Held presence (List ℕ))
 merged_text presence x = option_map (λ p. held presence [] (Some p)) (payload_in x)
 
-abbrev pub merged_message : {A : Type 0} → (presence : Presence) → (List WireField → A → A) → A → wire.WireValue → Held presence A → Option (Held presence A)
-merged_message presence more none x old = option_map (λ p. held presence none (Some (more (fields p) (unwrap_or (present presence old) none)))) (payload_in x)
+abbrev pub merged_message : {A : Type 0} → (presence : Presence) → (List WireField → A → A) → A → wire.WireValue → Held presence A
+    → Option (Held presence A)
+merged_message presence more none x old =
+    option_map (λ p. held presence none (Some (more (fields p) (unwrap_or (present presence old) none)))) (payload_in x)
 
 abbrev pub merged_repeated : {A : Type 0} → (List WireField → A → A) → A → wire.WireValue → List A → Option (List A)
 merged_repeated more none x held = option_map (λ p. held ++ more (fields p) none ∷ []) (payload_in x)
@@ -46,13 +49,18 @@ merged_repeated more none x held = option_map (λ p. held ++ more (fields p) non
 -- with one more field of a slot; none where the field is of no slot
 abbrev pub merged : (s : Schema) → WireField → Value s → Option (Value s)
 merged schema.end f v = None
-merged (schema.scalar n name presence t rest) f v = if f.number == n then option_map (λ c. (c, v.1)) (merged_scalar presence t f.value) else option_map (λ w. (v.0, w)) (merged rest f v.1)
-merged (schema.text n name presence rest) f v = if f.number == n then option_map (λ c. (c, v.1)) (merged_text presence f.value) else option_map (λ w. (v.0, w)) (merged rest f v.1)
+merged (schema.scalar n name presence t rest) f v =
+    if f.number == n then option_map (λ c. (c, v.1)) (merged_scalar presence t f.value)
+    else option_map (λ w. (v.0, w)) (merged rest f v.1)
+merged (schema.text n name presence rest) f v =
+    if f.number == n then option_map (λ c. (c, v.1)) (merged_text presence f.value) else option_map (λ w. (v.0, w)) (merged rest f v.1)
 merged (schema.message n name presence m rest) f v =
-    if f.number == n then option_map (λ c. (c, v.1)) (merged_message presence (taken_in (λ q w. option_case (merged m q w) (kept m q w) (λ x. x))) (blank m) f.value v.0)
+    if f.number == n then option_map (λ c. (c, v.1))
+    (merged_message presence (taken_in (λ q w. option_case (merged m q w) (kept m q w) (λ x. x))) (blank m) f.value v.0)
     else option_map (λ w. (v.0, w)) (merged rest f v.1)
 merged (schema.repeated n name m rest) f v =
-    if f.number == n then option_map (λ c. (c, v.1)) (merged_repeated (taken_in (λ q w. option_case (merged m q w) (kept m q w) (λ x. x))) (blank m) f.value v.0)
+    if f.number == n then option_map (λ c. (c, v.1))
+    (merged_repeated (taken_in (λ q w. option_case (merged m q w) (kept m q w) (λ x. x))) (blank m) f.value v.0)
     else option_map (λ w. (v.0, w)) (merged rest f v.1)
 
 -- with one more field
@@ -73,8 +81,10 @@ abbrev pub TextsAreUtf8 : Schema → WireField → Type 0
 TextsAreUtf8 schema.end f = Unit {0}
 TextsAreUtf8 (schema.scalar n name presence t rest) f = TextsAreUtf8 rest f
 TextsAreUtf8 (schema.text n name presence rest) f = MatchBool (f.number == n) (IfSome (payload_in f.value) IsUtf8) (TextsAreUtf8 rest f)
-TextsAreUtf8 (schema.message n name presence m rest) f = MatchBool (f.number == n) (IfSome (payload_in f.value) (λ p. AllByRecursion (TextsAreUtf8 m) (fields p))) (TextsAreUtf8 rest f)
-TextsAreUtf8 (schema.repeated n name m rest) f = MatchBool (f.number == n) (IfSome (payload_in f.value) (λ p. AllByRecursion (TextsAreUtf8 m) (fields p))) (TextsAreUtf8 rest f)
+TextsAreUtf8 (schema.message n name presence m rest) f =
+    MatchBool (f.number == n) (IfSome (payload_in f.value) (λ p. AllByRecursion (TextsAreUtf8 m) (fields p))) (TextsAreUtf8 rest f)
+TextsAreUtf8 (schema.repeated n name m rest) f =
+    MatchBool (f.number == n) (IfSome (payload_in f.value) (λ p. AllByRecursion (TextsAreUtf8 m) (fields p))) (TextsAreUtf8 rest f)
 
 abbrev pub TakenOr : {A : Type 0} → Option A → A → A → Result Bool AllocError → Type 0
 TakenOr o old new (Ok taken) = Took o old new taken

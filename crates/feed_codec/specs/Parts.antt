@@ -1,4 +1,5 @@
 -- A snapshot that is checked part by part: each entity by itself, and the parts of the header together at the end.
+-- (Protocol Buffers, Encoding, "Last One Wins", "Submessages"; the order of faults is this profile's.)
 use Rattle.std.specs.Prelude.{◌≡◌, ℕ, ◌≤◌, List, [], ◌∷◌, length, Option, Some, None}
 use Rattle.std.specs.Option.{option_or}
 use Rattle.std.specs.List.{AllByRecursion, concat, flat_map}
@@ -30,4 +31,6 @@ pub record PartsDecide : Type 0 where
   pub joined : (ps : List (List ℕ)) → IsBytes (concat ps) → Passed ps → fields (concat ps) ≡ flat_map fields ps
   -- a snapshot is refused as its parts are: the first fault of an entity or of a part of the header, and then what the joined header lacks
   pub refused : (bytes : List ℕ) → IsBytes bytes → length bytes ≤ snapshot_limit
-      → refusal bytes ≡ option_or (first_in (in_payload part_fault) (placed_fields bytes)) (header_end (length bytes) (given (in_slot payload_in 1) (fields bytes)))
+      → refusal bytes
+      ≡ option_or (first_in (in_payload part_fault) (placed_fields bytes))
+      (header_end (length bytes) (given (in_slot payload_in 1) (fields bytes)))

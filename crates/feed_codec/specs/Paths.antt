@@ -1,4 +1,5 @@
 -- What is held in the messages at a path of slots, where the payloads of each slot are taken together.
+-- (Protocol Buffers, Encoding, "Last One Wins", "Submessages".)
 use Rattle.std.specs.Prelude.{ℕ, List, [], ◌∷◌, Bool, false, not}
 use Rattle.std.specs.Option.{is_some}
 use Rattle.std.specs.List.{flat_map, list_any}

@@ -9,7 +9,8 @@ use Rattle.rt_wire.specs.declared.fault.WireFault.{WireFault}
 use Rattle.rt_wire.specs.Fields.{WireField}
 use Rattle.rt_wire.specs.Placed.{PlacedField, placed_fields}
 use Rattle.feed_codec.specs.declared.refusal.Reason.{Reason}
-use Rattle.feed_codec.specs.declared.refusal.Reason.TheVariants.{Truncated, VarintTooLong, BadTag, BadWireType, Overrun, LoneEndGroup, GroupMismatch, TooDeep, NotText, MissingField, Differential, TooLarge}
+use Rattle.feed_codec.specs.declared.refusal.Reason.TheVariants.{Truncated, VarintTooLong, BadTag, BadWireType, Overrun, LoneEndGroup}
+use Rattle.feed_codec.specs.declared.refusal.Reason.TheVariants.{GroupMismatch, TooDeep, NotText, MissingField, Differential, TooLarge}
 use Rattle.feed_codec.specs.declared.refusal.Refusal.{Refusal}
 use Rattle.feed_values.specs.declared.required.Required.{Required}
 use Rattle.feed_values.specs.Schema as schema
@@ -81,11 +82,14 @@ part_fault number p = if number == 1 then first_fault feed_header p else (if num
 
 -- what is wrong with a header at the snapshot's end: a missing slot, then DIFFERENTIAL
 abbrev pub header_fault : ℕ → List WireField → Option Refusal
-header_fault end l = option_or (missing_at end (missing feed_header l)) (if is_differential l then Some (refused end Differential) else None)
+header_fault end l =
+    option_or (missing_at end (missing feed_header l)) (if is_differential l then Some (refused end Differential) else None)
 
 -- what is wrong at the snapshot's end
 abbrev pub end_fault : ℕ → List WireField → Option Refusal
-end_fault end l = option_or (missing_at end (missing feed_message l)) (if is_differential (header_fields l) then Some (refused end Differential) else None)
+end_fault end l =
+    option_or (missing_at end (missing feed_message l)) (if is_differential (header_fields l) then Some (refused end Differential)
+    else None)
 
 -- the first fault of a snapshot, and none where it is accepted
 unfoldable pub refusal : List ℕ → Option Refusal

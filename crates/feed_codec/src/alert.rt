@@ -1,9 +1,10 @@
 //! Alerts and what they hold, as kinds of message.
 ghost use Rattle.std.proofs.Common.{rules};
+ghost use Rattle.feed_codec.specs.Refusal.{payload_fault};
 ghost use Rattle.feed_values.specs.Messages.{alert, time_range, entity_selector};
 ghost use Rattle.feed_values.specs.Views.{alert_value, time_range_value, entity_selector_value};
 
-use crate::checking::{check_message, check_text};
+use crate::checking::{Checked, check_message, check_text};
 use crate::message::{Message, merge_optional, push_repeated};
 use crate::refusal::Refusal;
 use crate::taking::{take_enum, take_i32, take_text, take_u64};
@@ -13,10 +14,8 @@ use feed_values::{
 use rt_wire::RawField;
 use std::alloc::{AllocError, Global};
 
-impl Message for Alert {
-    ghost schema = { alert };
-
-    ghost value = { alert_value };
+impl Checked for Alert {
+    ghost wrong = { payload_fault alert };
 
     #[tactic(auto, unfolding(crate::specs::Refusal::first_fault))]
     fn check_slot(number: u32, payload: &[u8]) -> Result<(), Refusal> {
@@ -27,6 +26,12 @@ impl Message for Alert {
             _ => Ok(()),
         }
     }
+}
+
+impl Message for Alert {
+    ghost schema = { alert };
+
+    ghost value = { alert_value };
 
     fn empty(alloc: Global) -> Alert {
         Alert {
@@ -62,14 +67,18 @@ impl Message for Alert {
     ghost rises = { Prim.search rules };
 }
 
-impl Message for TimeRange {
-    ghost schema = { time_range };
-
-    ghost value = { time_range_value };
+impl Checked for TimeRange {
+    ghost wrong = { payload_fault time_range };
 
     fn check_slot(_number: u32, _payload: &[u8]) -> Result<(), Refusal> {
         Ok(())
     }
+}
+
+impl Message for TimeRange {
+    ghost schema = { time_range };
+
+    ghost value = { time_range_value };
 
     fn empty(alloc: Global) -> TimeRange {
         TimeRange {
@@ -94,10 +103,8 @@ impl Message for TimeRange {
     ghost rises = { Prim.search rules };
 }
 
-impl Message for EntitySelector {
-    ghost schema = { entity_selector };
-
-    ghost value = { entity_selector_value };
+impl Checked for EntitySelector {
+    ghost wrong = { payload_fault entity_selector };
 
     #[tactic(auto, unfolding(crate::specs::Refusal::first_fault))]
     fn check_slot(number: u32, payload: &[u8]) -> Result<(), Refusal> {
@@ -107,6 +114,12 @@ impl Message for EntitySelector {
             _ => Ok(()),
         }
     }
+}
+
+impl Message for EntitySelector {
+    ghost schema = { entity_selector };
+
+    ghost value = { entity_selector_value };
 
     fn empty(alloc: Global) -> EntitySelector {
         EntitySelector {

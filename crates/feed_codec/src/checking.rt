@@ -1,9 +1,9 @@
 //! The first fault of a message, without taking memory.
-ghost use Rattle.std.specs.Prelude.{◌≡◌, ◌≤◌, length, IfErr};
-ghost use Rattle.rt_wire.specs.Placed.{placed_field, PayloadFits};
-ghost use Rattle.feed_codec.specs.Refusal.{Answers, first_fault, text_fault, in_payload, payload_fault, wire_reason};
+ghost use Rattle.std.specs.Prelude.{◌≡◌, ◌≤◌, ◌<◌, ◌+◌, ◌^◌, ℕ, List, length, Option, IfErr};
+ghost use Rattle.rt_wire.specs.Placed.{placed_field, placed_fields, PayloadFits};
+ghost use Rattle.feed_codec.specs.declared.refusal.Refusal.{Refusal};
+ghost use Rattle.feed_codec.specs.Refusal.{Answers, first_in, text_fault, in_payload, shifted, wire_reason};
 
-use crate::message::Message;
 use crate::refusal::{Reason, Refusal};
 use rt_wire::{Fields, RawField, RawValue, WireReason};
 
@@ -14,10 +14,7 @@ pub fn check_text(payload: &[u8]) -> Result<(), Refusal>
 {
     match str::from_utf8(payload) {
         Ok(_) => Ok(()),
-        Err(error) => Err(Refusal {
-            at: error.valid_up_to(),
-            reason: Reason::NotText,
-        }),
+        Err(error) => Err(Refusal::new(error.valid_up_to(), Reason::NotText)),
     }
 }
 
@@ -37,40 +34,50 @@ pub fn reason_of(reason: WireReason) -> Reason
     }
 }
 
+/// The same answer, where the bytes begin at `base`.
+pub fn moved(answer: Result<(), Refusal>, base: usize) -> Result<(), Refusal>
+    requires { IfErr answer (λ r. base + r.at < 2 ^ 64) }
+    ensures ok { answer ≡ Ok tt → result ≡ Ok tt }
+    ensures err { IfErr answer (λ r. result ≡ Err (shifted base r)) }
+{
+    match answer {
+        Ok(()) => Ok(()),
+        Err(refusal) => Err(Refusal::new(base + refusal.at, refusal.reason)),
+    }
+}
+
+/// A kind of message, by what is wrong with the payloads of its slots.
+pub trait Checked {
+    ghost wrong: { ℕ → List ℕ → Option Refusal };
+
+    /// The first fault of a payload of slot `number`, with its place in the payload.
+    fn check_slot(number: u32, payload: &[u8]) -> Result<(), Refusal>
+        ensures answer { Answers result (wrong number payload.now) }
+        ensures place { IfErr result (λ r. r.at ≤ length payload.now) };
+}
+
 /// What is wrong inside a field.
-fn check_field<M: Message>(field: RawField<'_>) -> Result<(), Refusal>
+fn check_field<M: Checked>(field: RawField<'_>) -> Result<(), Refusal>
     requires { PayloadFits field.body field.end field.value }
-    ensures answer { Answers result (in_payload (payload_fault M.schema) (placed_field field.entry)) }
+    ensures answer { Answers result (in_payload M.wrong (placed_field field.entry)) }
     ensures place { IfErr result (λ r. r.at ≤ field.entry.end) }
 {
     let RawValue::Len(payload) = field.value else {
         return Ok(());
     };
-    match M::check_slot(field.number, payload) {
-        Ok(()) => Ok(()),
-        Err(refusal) => Err(Refusal {
-            at: field.body + refusal.at,
-            reason: refusal.reason,
-        }),
-    }
+    moved(M::check_slot(field.number, payload), field.body)
 }
 
-/// The first fault of the bytes of a message, but for required slots.
-#[tactic(auto, unfolding(crate::specs::Refusal::first_fault))]
-pub fn check_message<M: Message>(bytes: &[u8]) -> Result<(), Refusal>
-    ensures answer { Answers result (first_fault M.schema bytes.now) }
+/// The first fault of the bytes of a message: for each field its own, and then what is wrong inside it.
+pub fn check_message<M: Checked>(bytes: &[u8]) -> Result<(), Refusal>
+    ensures answer { Answers result (first_in (in_payload M.wrong) (placed_fields bytes.now)) }
     ensures place { IfErr result (λ r. r.at ≤ length bytes.now) }
 {
     let mut fields = Fields::new(bytes);
     while let Some(field) = fields.next() {
         match field {
             Ok(field) => check_field::<M>(field)?,
-            Err(fault) => {
-                return Err(Refusal {
-                    at: fault.at,
-                    reason: reason_of(fault.reason),
-                });
-            }
+            Err(fault) => return Err(Refusal::new(fault.at, reason_of(fault.reason))),
         }
     }
     Ok(())

@@ -4,13 +4,16 @@ ghost use Rattle.feed_codec.specs.declared.codec_fault.CodecFault.TheVariants.{M
 
 use crate::refusal::Refusal;
 use std::alloc::AllocError;
+use thiserror::Error;
 
 /// Why a snapshot isn't decoded: it is refused, or no memory is left.
-#[derive(Clone, Copy, Debug, PartialEq, Eq)]
+#[derive(Clone, Copy, Debug, PartialEq, Eq, Error)]
 pub enum CodecFault {
     /// The first fault of the bytes, which more memory wouldn't cure.
+    #[error("{0:?}")]
     Refused(Refusal),
     /// No memory was left for the value of an accepted snapshot.
+    #[error("out of memory")]
     Memory,
 }
 

@@ -1,9 +1,10 @@
 //! Descriptors of trips and vehicles, as kinds of message.
 ghost use Rattle.std.proofs.Common.{rules};
+ghost use Rattle.feed_codec.specs.Refusal.{payload_fault};
 ghost use Rattle.feed_values.specs.Messages.{trip_descriptor, vehicle_descriptor};
 ghost use Rattle.feed_values.specs.Views.{trip_descriptor_value, vehicle_descriptor_value};
 
-use crate::checking::check_text;
+use crate::checking::{Checked, check_text};
 use crate::message::Message;
 use crate::refusal::Refusal;
 use crate::taking::{take_enum, take_text, take_u32};
@@ -11,10 +12,8 @@ use feed_values::{Items, TripDescriptor, Unknown, VehicleDescriptor};
 use rt_wire::RawField;
 use std::alloc::{AllocError, Global};
 
-impl Message for TripDescriptor {
-    ghost schema = { trip_descriptor };
-
-    ghost value = { trip_descriptor_value };
+impl Checked for TripDescriptor {
+    ghost wrong = { payload_fault trip_descriptor };
 
     fn check_slot(number: u32, payload: &[u8]) -> Result<(), Refusal> {
         match number {
@@ -22,6 +21,12 @@ impl Message for TripDescriptor {
             _ => Ok(()),
         }
     }
+}
+
+impl Message for TripDescriptor {
+    ghost schema = { trip_descriptor };
+
+    ghost value = { trip_descriptor_value };
 
     fn empty(alloc: Global) -> TripDescriptor {
         TripDescriptor {
@@ -54,10 +59,8 @@ impl Message for TripDescriptor {
     ghost rises = { Prim.search rules };
 }
 
-impl Message for VehicleDescriptor {
-    ghost schema = { vehicle_descriptor };
-
-    ghost value = { vehicle_descriptor_value };
+impl Checked for VehicleDescriptor {
+    ghost wrong = { payload_fault vehicle_descriptor };
 
     fn check_slot(number: u32, payload: &[u8]) -> Result<(), Refusal> {
         match number {
@@ -65,6 +68,12 @@ impl Message for VehicleDescriptor {
             _ => Ok(()),
         }
     }
+}
+
+impl Message for VehicleDescriptor {
+    ghost schema = { vehicle_descriptor };
+
+    ghost value = { vehicle_descriptor_value };
 
     fn empty(alloc: Global) -> VehicleDescriptor {
         VehicleDescriptor {

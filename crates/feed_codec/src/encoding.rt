@@ -14,6 +14,13 @@ ghost use Rattle.feed_values.specs.Views.{natural, truth, unknown_field, unknown
 ghost use Rattle.feed_values.specs.WellFormed.{IsWellFormed, IsUnknown};
 ghost use Rattle.feed_values.specs.Canonical.{canonical, spelled_slot, where_held, scalar_value};
 
+mod alert;
+mod descriptors;
+mod feed;
+mod translation;
+mod trip_update;
+mod vehicle_position;
+
 use crate::message::Message;
 use feed_values::{Items, Text, Unknown, UnknownValue};
 use rt_wire::{RawValue, put_field};
@@ -30,7 +37,8 @@ pub trait Encode: Message {
 pub fn put_u32(out: &mut Vec<u8>, number: u32, held: Option<u32>) -> Result<(), AllocError>
     requires some { 1 ≤ number }
     requires small { number < 2 ^ 29 }
-    ensures { OnOk result (out.new.items ≡ out.old.items ++ where_held (λ z. spelled_slot number (scalar_value schema.U32 z)) (natural held)) }
+    ensures { OnOk result (out.new.items ≡ out.old.items
+        ++ where_held (λ z. spelled_slot number (scalar_value schema.U32 z)) (natural held)) }
 {
     match held {
         Some(n) => put_field(out, number, RawValue::Varint(u64::from(n))),
@@ -42,7 +50,8 @@ pub fn put_u32(out: &mut Vec<u8>, number: u32, held: Option<u32>) -> Result<(), 
 pub fn put_enum(out: &mut Vec<u8>, number: u32, held: Option<u32>) -> Result<(), AllocError>
     requires some { 1 ≤ number }
     requires small { number < 2 ^ 29 }
-    ensures { OnOk result (out.new.items ≡ out.old.items ++ where_held (λ z. spelled_slot number (scalar_value (schema.Enum 0 0) z)) (natural held)) }
+    ensures { OnOk result (out.new.items ≡ out.old.items
+        ++ where_held (λ z. spelled_slot number (scalar_value (schema.Enum 0 0) z)) (natural held)) }
 {
     put_u32(out, number, held)
 }
@@ -50,7 +59,8 @@ pub fn put_enum(out: &mut Vec<u8>, number: u32, held: Option<u32>) -> Result<(),
 pub fn put_bool(out: &mut Vec<u8>, number: u32, held: Option<bool>) -> Result<(), AllocError>
     requires some { 1 ≤ number }
     requires small { number < 2 ^ 29 }
-    ensures { OnOk result (out.new.items ≡ out.old.items ++ where_held (λ z. spelled_slot number (scalar_value schema.Bool z)) (truth held)) }
+    ensures { OnOk result (out.new.items ≡ out.old.items
+        ++ where_held (λ z. spelled_slot number (scalar_value schema.Bool z)) (truth held)) }
 {
     match held {
         Some(true) => put_field(out, number, RawValue::Varint(1)),
@@ -62,7 +72,8 @@ pub fn put_bool(out: &mut Vec<u8>, number: u32, held: Option<bool>) -> Result<()
 pub fn put_u64(out: &mut Vec<u8>, number: u32, held: Option<u64>) -> Result<(), AllocError>
     requires some { 1 ≤ number }
     requires small { number < 2 ^ 29 }
-    ensures { OnOk result (out.new.items ≡ out.old.items ++ where_held (λ z. spelled_slot number (scalar_value schema.U64 z)) (natural held)) }
+    ensures { OnOk result (out.new.items ≡ out.old.items
+        ++ where_held (λ z. spelled_slot number (scalar_value schema.U64 z)) (natural held)) }
 {
     match held {
         Some(n) => put_field(out, number, RawValue::Varint(n)),
@@ -95,7 +106,8 @@ pub fn put_i64(out: &mut Vec<u8>, number: u32, held: Option<i64>) -> Result<(), 
 pub fn put_bits32(out: &mut Vec<u8>, number: u32, held: Option<u32>) -> Result<(), AllocError>
     requires some { 1 ≤ number }
     requires small { number < 2 ^ 29 }
-    ensures { OnOk result (out.new.items ≡ out.old.items ++ where_held (λ z. spelled_slot number (scalar_value schema.Bits32 z)) (natural held)) }
+    ensures { OnOk result (out.new.items ≡ out.old.items
+        ++ where_held (λ z. spelled_slot number (scalar_value schema.Bits32 z)) (natural held)) }
 {
     match held {
         Some(n) => put_field(out, number, RawValue::Fixed32(n)),
@@ -106,7 +118,8 @@ pub fn put_bits32(out: &mut Vec<u8>, number: u32, held: Option<u32>) -> Result<(
 pub fn put_bits64(out: &mut Vec<u8>, number: u32, held: Option<u64>) -> Result<(), AllocError>
     requires some { 1 ≤ number }
     requires small { number < 2 ^ 29 }
-    ensures { OnOk result (out.new.items ≡ out.old.items ++ where_held (λ z. spelled_slot number (scalar_value schema.Bits64 z)) (natural held)) }
+    ensures { OnOk result (out.new.items ≡ out.old.items
+        ++ where_held (λ z. spelled_slot number (scalar_value schema.Bits64 z)) (natural held)) }
 {
     match held {
         Some(n) => put_field(out, number, RawValue::Fixed64(n)),
@@ -163,7 +176,8 @@ pub fn put_optional<M: Encode>(
     requires some { 1 ≤ number }
     requires small { number < 2 ^ 29 }
     requires fits { IfSome (option_map M.value held.now) (IsWellFormed M.schema) }
-    ensures { OnOk result (out.new.items ≡ out.old.items ++ where_held (λ w. spelled_slot number (Len (canonical M.schema w))) (option_map M.value held.now)) }
+    ensures { OnOk result (out.new.items ≡ out.old.items
+        ++ where_held (λ w. spelled_slot number (Len (canonical M.schema w))) (option_map M.value held.now)) }
 {
     match held {
         Some(message) => put_message(alloc, out, number, message),
@@ -180,7 +194,8 @@ pub fn put_repeated<M: Encode>(
     requires some { 1 ≤ number }
     requires small { number < 2 ^ 29 }
     requires fits { AllByRecursion (IsWellFormed M.schema) (map M.value held.now) }
-    ensures { OnOk result (out.new.items ≡ out.old.items ++ flat_map (λ w. spelled_slot number (Len (canonical M.schema w))) (map M.value held.now)) }
+    ensures { OnOk result (out.new.items ≡ out.old.items
+        ++ flat_map (λ w. spelled_slot number (Len (canonical M.schema w))) (map M.value held.now)) }
 {
     for message in held.as_slice() {
         put_message(alloc, out, number, message)?;

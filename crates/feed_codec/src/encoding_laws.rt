@@ -1,6 +1,7 @@
 //! The laws that join encoding and decoding. Each function stands for its contract: it does nothing, and its `ensures`
 //! is proved for all byte lists, values and messages.
-ghost use Rattle.feed_codec.specs.EncodingLaws.{CanonicalMeansValue, AcceptedIsWellFormed, EncodedDecodes, CanonicalDecides, ValuesAreFaithful};
+ghost use Rattle.feed_codec.specs.EncodingLaws.{CanonicalMeansValue, AcceptedIsWellFormed, EncodedDecodes, CanonicalDecides};
+ghost use Rattle.feed_codec.specs.EncodingLaws.{ValuesAreFaithful};
 
 /// The canonical bytes of a well-formed value are whole fields that mean the value, for a snapshot and for every message in
 /// it.

@@ -8,7 +8,7 @@ ghost use Rattle.feed_values.specs.WellFormed.{IsWellFormed};
 ghost use Rattle.feed_codec.specs.Parts.{IsJoined};
 ghost use Rattle.feed_codec.specs.Refusal.{Answers, first_fault, entity_fault, shifted};
 
-use crate::checking::check_message;
+use crate::checking::{check_message, moved};
 use crate::message::message_of;
 use crate::missing::missing_in_entity;
 use crate::refusal::{Reason, Refusal};
@@ -17,33 +17,15 @@ use rt_outside::Steps;
 use std::alloc::{AllocError, Global};
 use std::sync::ledger::Ledger;
 
-/// The same answer, where the bytes begin at `base`.
-fn moved(answer: Result<(), Refusal>, base: usize) -> Result<(), Refusal>
-    requires { IfErr answer (λ r. base + r.at < 2 ^ 64) }
-    ensures ok { answer ≡ Ok tt → result ≡ Ok tt }
-    ensures err { IfErr answer (λ r. result ≡ Err (shifted base r)) }
-{
-    match answer {
-        Ok(()) => Ok(()),
-        Err(refusal) => Err(Refusal {
-            at: base + refusal.at,
-            reason: refusal.reason,
-        }),
-    }
-}
-
 /// The first fault of the payload of an entity, with its place in the payload.
-#[tactic(auto, unfolding(crate::specs::Refusal::entity_fault))]
+#[tactic(auto, unfolding(crate::specs::Refusal::entity_fault, crate::specs::Refusal::first_fault))]
 pub fn check_entity_payload(bytes: &[u8]) -> Result<(), Refusal>
     ensures answer { Answers result (entity_fault bytes.now) }
     ensures place { IfErr result (λ r. r.at ≤ length bytes.now) }
 {
     check_message::<Entity>(bytes)?;
     match missing_in_entity(bytes) {
-        Some(slot) => Err(Refusal {
-            at: bytes.len(),
-            reason: Reason::MissingField(slot),
-        }),
+        Some(slot) => Err(Refusal::new(bytes.len(), Reason::MissingField(slot))),
         None => Ok(()),
     }
 }
@@ -66,6 +48,7 @@ pub fn check_entity(bytes: &[u8], base: usize) -> Result<(), Refusal>
 /// A header may come in several payloads. What they have to hold together is asked at the snapshot's end, by
 /// `check_header`, so this never answers `MissingField` or `Differential`. It takes no memory.
 /// (Protocol Buffers, Encoding, "Last One Wins"; GTFS Realtime Reference 2.0, "FeedHeader".)
+#[tactic(auto, unfolding(crate::specs::Refusal::first_fault))]
 pub fn check_header_part(bytes: &[u8], base: usize) -> Result<(), Refusal>
     requires { base + length bytes.now < 2 ^ 64 }
     ensures { Answers result (option_map (shifted base) (first_fault feed_header bytes.now)) }

@@ -1,9 +1,10 @@
 //! The snapshot, its header and its entities, as kinds of message.
 ghost use Rattle.std.proofs.Common.{rules};
+ghost use Rattle.feed_codec.specs.Refusal.{payload_fault};
 ghost use Rattle.feed_values.specs.Messages.{feed_message, feed_header, entity};
 ghost use Rattle.feed_values.specs.Views.{feed_message_value, feed_header_value, entity_value};
 
-use crate::checking::{check_message, check_text};
+use crate::checking::{Checked, check_message, check_text};
 use crate::message::{Message, merge_optional, merge_required, push_repeated};
 use crate::refusal::Refusal;
 use crate::taking::{take_bool, take_enum, take_required_text, take_u64};
@@ -17,15 +18,6 @@ impl Message for FeedMessage {
     ghost schema = { feed_message };
 
     ghost value = { feed_message_value };
-
-    #[tactic(auto, unfolding(crate::specs::Refusal::first_fault))]
-    fn check_slot(number: u32, payload: &[u8]) -> Result<(), Refusal> {
-        match number {
-            1 => check_message::<FeedHeader>(payload),
-            2 => check_message::<Entity>(payload),
-            _ => Ok(()),
-        }
-    }
 
     fn empty(alloc: Global) -> FeedMessage {
         FeedMessage {
@@ -51,10 +43,8 @@ impl Message for FeedMessage {
     ghost rises = { Prim.search rules };
 }
 
-impl Message for FeedHeader {
-    ghost schema = { feed_header };
-
-    ghost value = { feed_header_value };
+impl Checked for FeedHeader {
+    ghost wrong = { payload_fault feed_header };
 
     fn check_slot(number: u32, payload: &[u8]) -> Result<(), Refusal> {
         match number {
@@ -62,6 +52,12 @@ impl Message for FeedHeader {
             _ => Ok(()),
         }
     }
+}
+
+impl Message for FeedHeader {
+    ghost schema = { feed_header };
+
+    ghost value = { feed_header_value };
 
     fn empty(alloc: Global) -> FeedHeader {
         FeedHeader {
@@ -88,10 +84,8 @@ impl Message for FeedHeader {
     ghost rises = { Prim.search rules };
 }
 
-impl Message for Entity {
-    ghost schema = { entity };
-
-    ghost value = { entity_value };
+impl Checked for Entity {
+    ghost wrong = { payload_fault entity };
 
     #[tactic(auto, unfolding(crate::specs::Refusal::first_fault))]
     fn check_slot(number: u32, payload: &[u8]) -> Result<(), Refusal> {
@@ -103,6 +97,12 @@ impl Message for Entity {
             _ => Ok(()),
         }
     }
+}
+
+impl Message for Entity {
+    ghost schema = { entity };
+
+    ghost value = { entity_value };
 
     fn empty(alloc: Global) -> Entity {
         Entity {

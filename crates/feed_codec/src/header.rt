@@ -7,6 +7,7 @@ ghost use Rattle.feed_values.specs.Accepted.{incrementalities, header_fields};
 ghost use Rattle.feed_values.specs.Views.{natural};
 ghost use Rattle.feed_codec.specs.Refusal.{Answers, header_fault};
 
+use crate::numbers::{HEADER, INCREMENTALITY, VERSION};
 use crate::paths::{Sought, has};
 use crate::refusal::{Reason, Refusal, Required};
 use crate::taking::take_enum;
@@ -24,17 +25,11 @@ pub const DIFFERENTIAL: u32 = 1;
 pub fn check_header(parts: &[u8], end: usize) -> Result<(), Refusal>
     ensures { Answers result (header_fault end (fields parts.now)) }
 {
-    if !has(parts, &[], Sought::Payload(1)) {
-        return Err(Refusal {
-            at: end,
-            reason: Reason::MissingField(Required::Version),
-        });
+    if !has(parts, &[], Sought::Payload(VERSION)) {
+        return Err(Refusal::new(end, Reason::MissingField(Required::Version)));
     }
     if last_incrementality(parts) == Some(DIFFERENTIAL) {
-        return Err(Refusal {
-            at: end,
-            reason: Reason::Differential,
-        });
+        return Err(Refusal::new(end, Reason::Differential));
     }
     Ok(())
 }
@@ -58,7 +53,7 @@ fn last_incrementality(parts: &[u8]) -> Option<u32>
 fn take_incrementality(held: &mut Option<u32>, field: RawField<'_>)
     ensures { natural held.new ≡ option_or (last_of (incrementalities ((placed_field field.entry).field ∷ []))) (natural held.old) }
 {
-    if field.number == 2 {
+    if field.number == INCREMENTALITY {
         take_enum(held, field.value, 0, 1);
     }
 }
@@ -80,12 +75,13 @@ pub fn snapshot_incrementality(bytes: &[u8]) -> Option<u32>
 
 /// Holds the incrementality that a field of a snapshot gives, where it is of the header and gives one.
 fn take_from_header(held: &mut Option<u32>, field: RawField<'_>)
-    ensures { natural held.new ≡ option_or (last_of (incrementalities (header_fields ((placed_field field.entry).field ∷ [])))) (natural held.old) }
+    ensures { natural held.new
+        ≡ option_or (last_of (incrementalities (header_fields ((placed_field field.entry).field ∷ [])))) (natural held.old) }
 {
     let RawValue::Len(payload) = field.value else {
         return;
     };
-    if field.number != 1 {
+    if field.number != HEADER {
         return;
     }
     if let Some(found) = last_incrementality(payload) {

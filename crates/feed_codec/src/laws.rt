@@ -2,6 +2,7 @@
 //! byte lists.
 ghost use Rattle.feed_codec.specs.FirstFault.{RefusalIsFirst};
 ghost use Rattle.feed_codec.specs.Parts.{PartsDecide};
+ghost use Rattle.feed_codec.specs.Missing.{MissingIsFirst};
 
 /// Every byte list is accepted, or is refused at the first place where it goes wrong, and never both.
 #[tactic(auto, using(crate::proofs::SnapshotFaults::refusal_is_first))]
@@ -14,4 +15,11 @@ pub fn refusal_is_first()
 #[tactic(auto, using(crate::proofs::Joining::parts_decide))]
 pub fn parts_decide()
     ensures { PartsDecide }
+{}
+
+/// The required slot that an entity is refused for is the first that it lacks in the order id, trip, latitude, longitude,
+/// text.
+#[tactic(auto, using(crate::proofs::MissingOrder::missing_is_first))]
+pub fn missing_is_first()
+    ensures { MissingIsFirst }
 {}

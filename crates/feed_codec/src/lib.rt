@@ -21,6 +21,7 @@
 //!
 //! - `refusal`: why bytes are no snapshot, and where
 //! - `codec_fault`: a refusal, or want of memory
+//! - `numbers`: the numbers of the slots that are asked for by name
 //! - `taking`: a number or a text into its slot
 //! - `unknown`: a field of no slot, with memory of its own
 //! - `paths`: whether a field is there, at a path of slots
@@ -33,8 +34,8 @@
 //! - `snapshot`: a whole snapshot, checked and decoded
 //! - `laws`: that a refusal is the first fault, and that the parts of a snapshot decide as the whole
 //! - `encoding`: any message, written slot by slot
-//! - `encoding_descriptors`, `encoding_translation`, `encoding_alert`, `encoding_vehicle_position`,
-//!   `encoding_trip_update`, `encoding_feed`: the kinds of message, written
+//! - in `encoding`, `descriptors`, `translation`, `alert`, `vehicle_position`, `trip_update`, `feed`: the kinds of
+//!   message, written
 //! - `canonical`: a whole snapshot, written
 //! - `encoding_laws`: that encoding and decoding undo each other
 #![tactic(auto)]
@@ -45,19 +46,14 @@ mod checking;
 mod codec_fault;
 mod descriptors;
 mod encoding;
-mod encoding_alert;
-mod encoding_descriptors;
-mod encoding_feed;
 mod encoding_laws;
-mod encoding_translation;
-mod encoding_trip_update;
-mod encoding_vehicle_position;
 mod entity;
 mod feed;
 mod header;
 mod laws;
 mod message;
 mod missing;
+mod numbers;
 mod paths;
 mod refusal;
 mod snapshot;
@@ -75,17 +71,6 @@ pub use encoding_laws::{
 };
 pub use entity::{check_entity, check_header_part, decode_entity, decode_header};
 pub use header::check_header;
-pub use laws::{parts_decide, refusal_is_first};
+pub use laws::{missing_is_first, parts_decide, refusal_is_first};
 pub use refusal::{Reason, Refusal, Required};
 pub use snapshot::{SNAPSHOT_LIMIT, check_snapshot, decode};
-
-#[cfg(test)]
-mod cell_tests;
-#[cfg(test)]
-mod encoding_tests;
-#[cfg(test)]
-mod rewrites;
-#[cfg(test)]
-mod tests;
-#[cfg(test)]
-mod vectors;

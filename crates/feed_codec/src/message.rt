@@ -1,15 +1,14 @@
 //! Decoding of any message, field by field.
-ghost use Rattle.std.specs.Prelude.{◌≡◌, ◌≤◌, length, OnOk, IfOk, IfErr, IfSome, map};
+ghost use Rattle.std.specs.Prelude.{◌≡◌, OnOk, IfOk, IfSome, map};
 ghost use Rattle.std.specs.Option.{option_map};
 ghost use Rattle.std.specs.List.{AllByRecursion};
 ghost use Rattle.rt_wire.specs.Placed.{placed_field, value_of};
 ghost use Rattle.feed_values.specs.Schema.{Schema, Value, Optional, Rises, blank};
-ghost use Rattle.feed_codec.specs.Refusal.{Answers, payload_fault};
 ghost use Rattle.feed_values.specs.Meaning.{fields, payload_in, meaning};
 ghost use Rattle.feed_values.specs.Views.{unknown_field};
-ghost use Rattle.feed_codec.specs.Merging.{required, kept, merged, merged_message, merged_repeated, with_field, with_fields, TextsAreUtf8, TakenOr};
+ghost use Rattle.feed_codec.specs.Merging.{required, kept, merged, merged_message, merged_repeated, with_field, with_fields};
+ghost use Rattle.feed_codec.specs.Merging.{TextsAreUtf8, TakenOr};
 
-use crate::refusal::Refusal;
 use crate::unknown::unknown_of;
 use feed_values::{Items, Unknown};
 use rt_wire::{Fields, RawField, RawValue};
@@ -20,11 +19,6 @@ pub trait Message: Drop {
     ghost schema: { Schema };
 
     ghost value: { Self → Value schema };
-
-    /// The first fault of a payload of slot `number`, with its place in the payload.
-    fn check_slot(number: u32, payload: &[u8]) -> Result<(), Refusal>
-        ensures answer { Answers result (payload_fault schema number payload.now) }
-        ensures place { IfErr result (λ r. r.at ≤ length payload.now) };
 
     /// A message that holds nothing.
     fn empty(alloc: Global) -> Self
@@ -81,7 +75,8 @@ pub fn merge_optional<M: Message>(
     value: RawValue<'_>,
 ) -> Result<bool, AllocError>
     requires { IfSome (payload_in (value_of value)) (λ p. AllByRecursion (TextsAreUtf8 M.schema) (fields p)) }
-    ensures { TakenOr (merged_message Optional (with_fields M.schema) (blank M.schema) (value_of value.entry) (option_map M.value held.old)) (option_map M.value held.old) (option_map M.value held.new) result }
+    ensures { TakenOr (merged_message Optional (with_fields M.schema) (blank M.schema) (value_of value.entry) (option_map M.value held.old))
+        (option_map M.value held.old) (option_map M.value held.new) result }
 {
     let RawValue::Len(payload) = value else {
         return Ok(false);
@@ -103,7 +98,8 @@ pub fn merge_required<M: Message>(
     value: RawValue<'_>,
 ) -> Result<bool, AllocError>
     requires { IfSome (payload_in (value_of value)) (λ p. AllByRecursion (TextsAreUtf8 M.schema) (fields p)) }
-    ensures { TakenOr (merged_message required (with_fields M.schema) (blank M.schema) (value_of value.entry) (M.value held.old)) (M.value held.old) (M.value held.new) result }
+    ensures { TakenOr (merged_message required (with_fields M.schema) (blank M.schema) (value_of value.entry) (M.value held.old))
+        (M.value held.old) (M.value held.new) result }
 {
     let RawValue::Len(payload) = value else {
         return Ok(false);
@@ -120,7 +116,8 @@ pub fn push_repeated<M: Message>(
     value: RawValue<'_>,
 ) -> Result<bool, AllocError>
     requires { IfSome (payload_in (value_of value)) (λ p. AllByRecursion (TextsAreUtf8 M.schema) (fields p)) }
-    ensures { TakenOr (merged_repeated (with_fields M.schema) (blank M.schema) (value_of value.entry) (map M.value held.old)) (map M.value held.old) (map M.value held.new) result }
+    ensures { TakenOr (merged_repeated (with_fields M.schema) (blank M.schema) (value_of value.entry) (map M.value held.old))
+        (map M.value held.old) (map M.value held.new) result }
 {
     let RawValue::Len(payload) = value else {
         return Ok(false);

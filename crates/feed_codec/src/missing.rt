@@ -5,6 +5,10 @@ ghost use Rattle.feed_values.specs.Messages.{entity, trip_update, vehicle_positi
 ghost use Rattle.feed_values.specs.Meaning.{fields, given, in_slot, payload_in};
 ghost use Rattle.feed_values.specs.Accepted.{missing, missing_message};
 
+use crate::numbers::{
+    ALERT, DESCRIPTION_TEXT, HEADER_TEXT, ID, LATITUDE, LONGITUDE, POSITION, TEXT, TRANSLATION,
+    TRIP, TRIP_UPDATE, URL, VEHICLE,
+};
 use crate::paths::{Sought, has};
 use feed_values::Required;
 
@@ -15,7 +19,7 @@ use feed_values::Required;
 pub fn missing_in_entity(bytes: &[u8]) -> Option<Required>
     ensures { result ≡ missing entity (fields bytes.now) }
 {
-    if !has(bytes, &[], Sought::Payload(1)) {
+    if !has(bytes, &[], Sought::Payload(ID)) {
         return Some(Required::Id);
     }
     if let Some(slot) = missing_in_trip_update(bytes) {
@@ -31,10 +35,10 @@ pub fn missing_in_entity(bytes: &[u8]) -> Option<Required>
 fn missing_in_trip_update(bytes: &[u8]) -> Option<Required>
     ensures { result ≡ missing_message schema.Optional (missing trip_update) (given (in_slot payload_in 3) (fields bytes.now)) }
 {
-    if !has(bytes, &[], Sought::Payload(3)) {
+    if !has(bytes, &[], Sought::Payload(TRIP_UPDATE)) {
         return None;
     }
-    if has(bytes, &[3], Sought::Payload(1)) {
+    if has(bytes, &[TRIP_UPDATE], Sought::Payload(TRIP)) {
         return None;
     }
     Some(Required::Trip)
@@ -44,13 +48,13 @@ fn missing_in_trip_update(bytes: &[u8]) -> Option<Required>
 fn missing_in_vehicle(bytes: &[u8]) -> Option<Required>
     ensures { result ≡ missing_message schema.Optional (missing vehicle_position) (given (in_slot payload_in 4) (fields bytes.now)) }
 {
-    if !has(bytes, &[4], Sought::Payload(2)) {
+    if !has(bytes, &[VEHICLE], Sought::Payload(POSITION)) {
         return None;
     }
-    if !has(bytes, &[4, 2], Sought::Fixed32(1)) {
+    if !has(bytes, &[VEHICLE, POSITION], Sought::Fixed32(LATITUDE)) {
         return Some(Required::Latitude);
     }
-    if !has(bytes, &[4, 2], Sought::Fixed32(2)) {
+    if !has(bytes, &[VEHICLE, POSITION], Sought::Fixed32(LONGITUDE)) {
         return Some(Required::Longitude);
     }
     None
@@ -60,14 +64,14 @@ fn missing_in_vehicle(bytes: &[u8]) -> Option<Required>
 fn missing_in_alert(bytes: &[u8]) -> Option<Required>
     ensures { result ≡ missing_message schema.Optional (missing alert) (given (in_slot payload_in 5) (fields bytes.now)) }
 {
-    let without_text = Sought::PayloadWithout(1, 1);
-    if has(bytes, &[5, 8], without_text) {
+    let without_text = Sought::PayloadWithout(TRANSLATION, TEXT);
+    if has(bytes, &[ALERT, URL], without_text) {
         return Some(Required::Text);
     }
-    if has(bytes, &[5, 10], without_text) {
+    if has(bytes, &[ALERT, HEADER_TEXT], without_text) {
         return Some(Required::Text);
     }
-    if has(bytes, &[5, 11], without_text) {
+    if has(bytes, &[ALERT, DESCRIPTION_TEXT], without_text) {
         return Some(Required::Text);
     }
     None

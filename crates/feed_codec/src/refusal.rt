@@ -1,4 +1,7 @@
 //! Why bytes are no snapshot.
+ghost use Rattle.std.specs.Prelude.{◌≡◌};
+ghost use Rattle.feed_codec.specs.Refusal.{refused};
+
 pub use feed_values::Required;
 
 /// What is wrong with a snapshot, and at which place.
@@ -43,4 +46,12 @@ pub enum Reason {
 pub struct Refusal {
     pub at: usize,
     pub reason: Reason,
+}
+
+impl Refusal {
+    pub fn new(at: usize, reason: Reason) -> Refusal
+        ensures { result ≡ refused at reason }
+    {
+        Refusal { at, reason }
+    }
 }

@@ -1,6 +1,6 @@
 //! A whole snapshot: checked without memory, then decoded.
-ghost use Rattle.std.specs.Prelude.{◌≡◌, ◌≤◌, length, IfOk, IfErr};
-ghost use Rattle.rt_wire.specs.Placed.{placed_field, placed_fields, PayloadFits};
+ghost use Rattle.std.specs.Prelude.{◌≡◌, length, IfOk};
+ghost use Rattle.rt_wire.specs.Placed.{placed_fields};
 ghost use Rattle.feed_values.specs.Messages.{feed_message};
 ghost use Rattle.feed_values.specs.Meaning.{fields, meaning};
 ghost use Rattle.feed_values.specs.Views.{feed_message_value};
@@ -9,61 +9,31 @@ ghost use Rattle.feed_codec.specs.Refusal.{Answers, first_in, in_payload, part_f
 ghost use Rattle.feed_codec.specs.Decoded.{Decodes};
 ghost use Rattle.feed_codec.specs.declared.codec_fault.CodecFault.TheVariants.{Memory};
 
-use crate::checking::{check_message, reason_of};
+use crate::checking::{Checked, check_message};
 use crate::codec_fault::CodecFault;
 use crate::entity::check_entity_payload;
 use crate::header::{DIFFERENTIAL, snapshot_incrementality};
 use crate::message::message_of;
+use crate::numbers::{ENTITY, HEADER, VERSION};
 use crate::paths::{Sought, has};
 use crate::refusal::{Reason, Refusal, Required};
 use feed_values::{FeedHeader, FeedMessage};
-use rt_wire::{Fields, RawField, RawValue};
 use std::alloc::Global;
 
 /// The most bytes that a snapshot has. (This profile.)
 pub const SNAPSHOT_LIMIT: usize = 67_108_864;
 
-/// What is wrong inside a field of a snapshot.
-fn check_part(field: RawField<'_>) -> Result<(), Refusal>
-    requires { PayloadFits field.body field.end field.value }
-    ensures answer { Answers result (in_payload part_fault (placed_field field.entry)) }
-    ensures place { IfErr result (λ r. r.at ≤ field.entry.end) }
-{
-    let RawValue::Len(payload) = field.value else {
-        return Ok(());
-    };
-    let answer = match field.number {
-        1 => check_message::<FeedHeader>(payload),
-        2 => check_entity_payload(payload),
-        _ => Ok(()),
-    };
-    match answer {
-        Ok(()) => Ok(()),
-        Err(refusal) => Err(Refusal {
-            at: field.body + refusal.at,
-            reason: refusal.reason,
-        }),
-    }
-}
+impl Checked for FeedMessage {
+    ghost wrong = { part_fault };
 
-/// The first fault of the fields of a snapshot.
-fn check_parts(bytes: &[u8]) -> Result<(), Refusal>
-    ensures answer { Answers result (first_in (in_payload part_fault) (placed_fields bytes.now)) }
-    ensures place { IfErr result (λ r. r.at ≤ length bytes.now) }
-{
-    let mut fields = Fields::new(bytes);
-    while let Some(field) = fields.next() {
-        match field {
-            Ok(field) => check_part(field)?,
-            Err(fault) => {
-                return Err(Refusal {
-                    at: fault.at,
-                    reason: reason_of(fault.reason),
-                });
-            }
+    #[tactic(auto, unfolding(crate::specs::Refusal::first_fault))]
+    fn check_slot(number: u32, payload: &[u8]) -> Result<(), Refusal> {
+        match number {
+            HEADER => check_message::<FeedHeader>(payload),
+            ENTITY => check_entity_payload(payload),
+            _ => Ok(()),
         }
     }
-    Ok(())
 }
 
 /// What is wrong at the snapshot's end: a header or its version is missing, or it is DIFFERENTIAL.
@@ -73,23 +43,14 @@ fn check_end(bytes: &[u8]) -> Result<(), Refusal>
     ensures { Answers result (end_fault (length bytes.now) (fields bytes.now)) }
 {
     let at = bytes.len();
-    if !has(bytes, &[], Sought::Payload(1)) {
-        return Err(Refusal {
-            at,
-            reason: Reason::MissingField(Required::Header),
-        });
+    if !has(bytes, &[], Sought::Payload(HEADER)) {
+        return Err(Refusal::new(at, Reason::MissingField(Required::Header)));
     }
-    if !has(bytes, &[1], Sought::Payload(1)) {
-        return Err(Refusal {
-            at,
-            reason: Reason::MissingField(Required::Version),
-        });
+    if !has(bytes, &[HEADER], Sought::Payload(VERSION)) {
+        return Err(Refusal::new(at, Reason::MissingField(Required::Version)));
     }
     if snapshot_incrementality(bytes) == Some(DIFFERENTIAL) {
-        return Err(Refusal {
-            at,
-            reason: Reason::Differential,
-        });
+        return Err(Refusal::new(at, Reason::Differential));
     }
     Ok(())
 }
@@ -105,12 +66,9 @@ pub fn check_snapshot(bytes: &[u8]) -> Result<(), Refusal>
     ensures { Answers result (refusal bytes.now) }
 {
     if bytes.len() > SNAPSHOT_LIMIT {
-        return Err(Refusal {
-            at: SNAPSHOT_LIMIT,
-            reason: Reason::TooLarge,
-        });
+        return Err(Refusal::new(SNAPSHOT_LIMIT, Reason::TooLarge));
     }
-    check_parts(bytes)?;
+    check_message::<FeedMessage>(bytes)?;
     check_end(bytes)
 }
 

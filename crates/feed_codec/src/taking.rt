@@ -61,7 +61,8 @@ pub fn take_i64(held: &mut Option<i64>, value: RawValue<'_>) -> bool
 }
 
 pub fn take_enum(held: &mut Option<u32>, value: RawValue<'_>, low: u32, high: u32) -> bool
-    ensures { Took (merged_scalar schema.Optional (schema.Enum low high) (value_of value.entry)) (natural held.old) (natural held.new) result }
+    ensures { Took (merged_scalar schema.Optional (schema.Enum low high) (value_of value.entry))
+        (natural held.old) (natural held.new) result }
 {
     let RawValue::Varint(n) = value else {
         return false;

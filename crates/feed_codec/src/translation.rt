@@ -1,9 +1,10 @@
 //! Texts in several languages, as kinds of message.
 ghost use Rattle.std.proofs.Common.{rules};
+ghost use Rattle.feed_codec.specs.Refusal.{payload_fault};
 ghost use Rattle.feed_values.specs.Messages.{translated_string, translation};
 ghost use Rattle.feed_values.specs.Views.{translated_string_value, translation_value};
 
-use crate::checking::{check_message, check_text};
+use crate::checking::{Checked, check_message, check_text};
 use crate::message::{Message, push_repeated};
 use crate::refusal::Refusal;
 use crate::taking::{take_required_text, take_text};
@@ -11,10 +12,8 @@ use feed_values::{Items, Text, TranslatedString, Translation, Unknown};
 use rt_wire::RawField;
 use std::alloc::{AllocError, Global};
 
-impl Message for TranslatedString {
-    ghost schema = { translated_string };
-
-    ghost value = { translated_string_value };
+impl Checked for TranslatedString {
+    ghost wrong = { payload_fault translated_string };
 
     #[tactic(auto, unfolding(crate::specs::Refusal::first_fault))]
     fn check_slot(number: u32, payload: &[u8]) -> Result<(), Refusal> {
@@ -23,6 +22,12 @@ impl Message for TranslatedString {
             _ => Ok(()),
         }
     }
+}
+
+impl Message for TranslatedString {
+    ghost schema = { translated_string };
+
+    ghost value = { translated_string_value };
 
     fn empty(alloc: Global) -> TranslatedString {
         TranslatedString {
@@ -46,10 +51,8 @@ impl Message for TranslatedString {
     ghost rises = { Prim.search rules };
 }
 
-impl Message for Translation {
-    ghost schema = { translation };
-
-    ghost value = { translation_value };
+impl Checked for Translation {
+    ghost wrong = { payload_fault translation };
 
     fn check_slot(number: u32, payload: &[u8]) -> Result<(), Refusal> {
         match number {
@@ -57,6 +60,12 @@ impl Message for Translation {
             _ => Ok(()),
         }
     }
+}
+
+impl Message for Translation {
+    ghost schema = { translation };
+
+    ghost value = { translation_value };
 
     fn empty(alloc: Global) -> Translation {
         Translation {

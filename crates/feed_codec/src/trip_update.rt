@@ -1,9 +1,10 @@
 //! Trip updates and what they hold, as kinds of message.
 ghost use Rattle.std.proofs.Common.{rules};
+ghost use Rattle.feed_codec.specs.Refusal.{payload_fault};
 ghost use Rattle.feed_values.specs.Messages.{trip_update, stop_time_update, stop_time_event};
 ghost use Rattle.feed_values.specs.Views.{trip_update_value, stop_time_update_value, stop_time_event_value};
 
-use crate::checking::{check_message, check_text};
+use crate::checking::{Checked, check_message, check_text};
 use crate::message::{Message, merge_optional, merge_required, push_repeated};
 use crate::refusal::Refusal;
 use crate::taking::{take_enum, take_i32, take_i64, take_text, take_u32, take_u64};
@@ -13,10 +14,8 @@ use feed_values::{
 use rt_wire::RawField;
 use std::alloc::{AllocError, Global};
 
-impl Message for TripUpdate {
-    ghost schema = { trip_update };
-
-    ghost value = { trip_update_value };
+impl Checked for TripUpdate {
+    ghost wrong = { payload_fault trip_update };
 
     #[tactic(auto, unfolding(crate::specs::Refusal::first_fault))]
     fn check_slot(number: u32, payload: &[u8]) -> Result<(), Refusal> {
@@ -27,6 +26,12 @@ impl Message for TripUpdate {
             _ => Ok(()),
         }
     }
+}
+
+impl Message for TripUpdate {
+    ghost schema = { trip_update };
+
+    ghost value = { trip_update_value };
 
     fn empty(alloc: Global) -> TripUpdate {
         TripUpdate {
@@ -58,10 +63,8 @@ impl Message for TripUpdate {
     ghost rises = { Prim.search rules };
 }
 
-impl Message for StopTimeUpdate {
-    ghost schema = { stop_time_update };
-
-    ghost value = { stop_time_update_value };
+impl Checked for StopTimeUpdate {
+    ghost wrong = { payload_fault stop_time_update };
 
     #[tactic(auto, unfolding(crate::specs::Refusal::first_fault))]
     fn check_slot(number: u32, payload: &[u8]) -> Result<(), Refusal> {
@@ -71,6 +74,12 @@ impl Message for StopTimeUpdate {
             _ => Ok(()),
         }
     }
+}
+
+impl Message for StopTimeUpdate {
+    ghost schema = { stop_time_update };
+
+    ghost value = { stop_time_update_value };
 
     fn empty(alloc: Global) -> StopTimeUpdate {
         StopTimeUpdate {
@@ -102,14 +111,18 @@ impl Message for StopTimeUpdate {
     ghost rises = { Prim.search rules };
 }
 
-impl Message for StopTimeEvent {
-    ghost schema = { stop_time_event };
-
-    ghost value = { stop_time_event_value };
+impl Checked for StopTimeEvent {
+    ghost wrong = { payload_fault stop_time_event };
 
     fn check_slot(_number: u32, _payload: &[u8]) -> Result<(), Refusal> {
         Ok(())
     }
+}
+
+impl Message for StopTimeEvent {
+    ghost schema = { stop_time_event };
+
+    ghost value = { stop_time_event_value };
 
     fn empty(alloc: Global) -> StopTimeEvent {
         StopTimeEvent {

@@ -1,9 +1,10 @@
 //! Vehicle positions and what they hold, as kinds of message.
 ghost use Rattle.std.proofs.Common.{rules};
+ghost use Rattle.feed_codec.specs.Refusal.{payload_fault};
 ghost use Rattle.feed_values.specs.Messages.{vehicle_position, position};
 ghost use Rattle.feed_values.specs.Views.{vehicle_position_value, position_value};
 
-use crate::checking::{check_message, check_text};
+use crate::checking::{Checked, check_message, check_text};
 use crate::message::{Message, merge_optional};
 use crate::refusal::Refusal;
 use crate::taking::{
@@ -13,10 +14,8 @@ use feed_values::{Items, Position, TripDescriptor, Unknown, VehicleDescriptor, V
 use rt_wire::RawField;
 use std::alloc::{AllocError, Global};
 
-impl Message for VehiclePosition {
-    ghost schema = { vehicle_position };
-
-    ghost value = { vehicle_position_value };
+impl Checked for VehiclePosition {
+    ghost wrong = { payload_fault vehicle_position };
 
     #[tactic(auto, unfolding(crate::specs::Refusal::first_fault))]
     fn check_slot(number: u32, payload: &[u8]) -> Result<(), Refusal> {
@@ -28,6 +27,12 @@ impl Message for VehiclePosition {
             _ => Ok(()),
         }
     }
+}
+
+impl Message for VehiclePosition {
+    ghost schema = { vehicle_position };
+
+    ghost value = { vehicle_position_value };
 
     fn empty(alloc: Global) -> VehiclePosition {
         VehiclePosition {
@@ -67,14 +72,18 @@ impl Message for VehiclePosition {
     ghost rises = { Prim.search rules };
 }
 
-impl Message for Position {
-    ghost schema = { position };
-
-    ghost value = { position_value };
+impl Checked for Position {
+    ghost wrong = { payload_fault position };
 
     fn check_slot(_number: u32, _payload: &[u8]) -> Result<(), Refusal> {
         Ok(())
     }
+}
+
+impl Message for Position {
+    ghost schema = { position };
+
+    ghost value = { position_value };
 
     fn empty(alloc: Global) -> Position {
         Position {

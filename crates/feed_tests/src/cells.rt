@@ -1,5 +1,6 @@
 //! The cells of every slot, given in a snapshot that another implementation wrote and missing in a bare entity.
-use crate::*;
+use crate::vectors;
+use feed_codec::decode;
 use feed_values::CellRef::{Missing, Number, Text};
 use feed_values::{CellRef, Entity, Path, Slot, field_at};
 use std::process::Abort;

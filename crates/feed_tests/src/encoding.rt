@@ -1,11 +1,9 @@
 //! What is written, beside what another implementation writes.
-ghost use Rattle.feed_values.specs.Messages.{stop_time_event};
-ghost use Rattle.feed_values.specs.Views.{stop_time_event_value};
 
-use crate::encoding::Encode;
 use crate::rewrites::REWRITES;
-use crate::*;
-use feed_values::{FeedMessage, Items, StopTimeEvent, well_formed};
+use crate::vectors;
+use feed_codec::{CodecFault, decode, encode};
+use feed_values::{FeedMessage, well_formed};
 use std::alloc::{AllocError, Global};
 use std::test::Fail;
 
@@ -84,20 +82,27 @@ fn what_is_read_is_written_in_canonical_bytes(rt: HostRuntime) -> Result<(), Fai
     Ok(())
 }
 
+/// An arrival whose delay of -60 is spelled in five bytes, and in ten: one snapshot, with the lengths of each message around it.
+const NEGATIVE_DELAYS: [(&[u8], &[u8]); 1] = [(
+    &[
+        0x0A, 0x05, 0x0A, 0x03, 0x32, 0x2E, 0x30, 0x12, 0x11, 0x0A, 0x01, 0x61, 0x1A, 0x0C, 0x0A,
+        0x00, 0x12, 0x08, 0x12, 0x06, 0x08, 0xC4, 0xFF, 0xFF, 0xFF, 0x0F,
+    ],
+    &[
+        0x0A, 0x05, 0x0A, 0x03, 0x32, 0x2E, 0x30, 0x12, 0x16, 0x0A, 0x01, 0x61, 0x1A, 0x11, 0x0A,
+        0x00, 0x12, 0x0D, 0x12, 0x0B, 0x08, 0xC4, 0xFF, 0xFF, 0xFF, 0xFF, 0xFF, 0xFF, 0xFF, 0xFF,
+        0x01,
+    ],
+)];
+
 #[test]
-fn a_negative_delay_takes_ten_bytes(rt: HostRuntime) -> Result<(), Fail> {
-    let alloc = rt.alloc();
-    let arrival = StopTimeEvent {
-        delay: Some(-60),
-        time: None,
-        uncertainty: None,
-        unknown: Items::new(alloc),
-    };
-    let mut bytes = Vec::new(alloc);
-    arrival.put(alloc, &mut bytes)?;
-    let payload = [
-        0x08, 0xC4, 0xFF, 0xFF, 0xFF, 0xFF, 0xFF, 0xFF, 0xFF, 0xFF, 0x01,
-    ];
-    assert_eq!(rt; bytes.as_slice(), payload.as_slice());
-    Ok(())
+fn a_negative_delay_takes_ten_bytes(rt: HostRuntime) {
+    for (short, long) in NEGATIVE_DELAYS {
+        for bytes in [short, long] {
+            match rewritten(rt.alloc(), bytes) {
+                Ok(again) => assert_eq!(rt; again.as_slice(), long),
+                Err(fault) => panic!(rt; "{fault:?}"),
+            }
+        }
+    }
 }

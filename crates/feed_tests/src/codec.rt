@@ -1,9 +1,11 @@
 //! Snapshots of another implementation, and what is wrong with broken ones, as tables.
 ghost use Rattle.std.specs.Prelude.{◌≡◌};
 
-use crate::checking::check_message;
-use crate::entity::check_entity_payload;
-use crate::*;
+use crate::vectors;
+use feed_codec::{
+    CodecFault, Reason, Refusal, Required, check_entity, check_header, check_header_part,
+    check_snapshot, decode, decode_entity, decode_header,
+};
 use feed_values::{
     Alert, Entity, EntitySelector, FeedHeader, StopTimeEvent, StopTimeUpdate, Text, TimeRange,
     Translation, TripDescriptor, TripUpdate, Unknown, UnknownValue, VehicleDescriptor,
@@ -319,93 +321,124 @@ fn expect_unknown(rt: &impl Abort, kept: &[Unknown]) {
     }
 }
 
-#[test]
-fn the_first_fault_of_each_kind_is_named(rt: HostRuntime) -> Result<(), Fail> {
-    let rows: [(&[u8], usize, Reason); 22] = [
-        (&[], 0, Reason::MissingField(Required::Header)),
-        (&[0x0A, 0x00], 2, Reason::MissingField(Required::Version)),
-        (&[0x0A, 0x0D], 1, Reason::Overrun),
-        (&[0x0A], 1, Reason::Truncated),
-        (&[0x80], 0, Reason::Truncated),
-        (&[0x07], 0, Reason::BadTag),
-        (&[0x80, 0x80, 0x80, 0x80, 0x10], 0, Reason::BadTag),
-        (&[0x0E], 0, Reason::BadWireType),
-        (&[0x0F], 0, Reason::BadWireType),
-        (&[0x0C], 0, Reason::LoneEndGroup),
-        (&[0x0B, 0x14], 1, Reason::GroupMismatch),
-        (&[0x0B], 1, Reason::Truncated),
-        (
-            &[
-                0x08, 0xFF, 0xFF, 0xFF, 0xFF, 0xFF, 0xFF, 0xFF, 0xFF, 0xFF, 0xFF, 0x00,
-            ],
-            1,
-            Reason::VarintTooLong,
-        ),
-        (&[0x0A, 0x03, 0x0A, 0x01, 0xFF], 4, Reason::NotText),
-        // A text that a later field overrides is looked at all the same.
-        (
-            &[0x0A, 0x06, 0x0A, 0x01, 0xFF, 0x0A, 0x01, 0x32],
-            4,
-            Reason::NotText,
-        ),
-        (&[0x12, 0x00], 2, Reason::MissingField(Required::Id)),
-        (
-            &[0x12, 0x05, 0x0A, 0x01, 0x61, 0x1A, 0x00],
-            7,
-            Reason::MissingField(Required::Trip),
-        ),
-        // A truncated varint behind the slot that is missing comes first.
-        (
-            &[0x12, 0x06, 0x0A, 0x01, 0x61, 0x1A, 0x00, 0x80],
-            7,
-            Reason::Truncated,
-        ),
-        (
-            &[0x12, 0x07, 0x0A, 0x01, 0x61, 0x22, 0x02, 0x12, 0x00],
-            9,
-            Reason::MissingField(Required::Latitude),
-        ),
-        (
-            &[
-                0x12, 0x0C, 0x0A, 0x01, 0x61, 0x22, 0x07, 0x12, 0x05, 0x0D, 0, 0, 0, 0,
-            ],
-            14,
-            Reason::MissingField(Required::Longitude),
-        ),
-        (
-            &[
-                0x12, 0x09, 0x0A, 0x01, 0x61, 0x2A, 0x04, 0x42, 0x02, 0x0A, 0x00,
-            ],
-            11,
-            Reason::MissingField(Required::Text),
-        ),
-        (
-            &[0x0A, 0x07, 0x0A, 0x03, 0x32, 0x2E, 0x30, 0x10, 0x01],
-            9,
-            Reason::Differential,
-        ),
-    ];
+/// A snapshot that is refused, and where and why.
+type Refused = (&'static [u8], usize, Reason);
+
+const WIRE_FAULTS: [Refused; 11] = [
+    (&[0x0A, 0x0D], 1, Reason::Overrun),
+    (&[0x0A], 1, Reason::Truncated),
+    (&[0x80], 0, Reason::Truncated),
+    (&[0x07], 0, Reason::BadTag),
+    (&[0x80, 0x80, 0x80, 0x80, 0x10], 0, Reason::BadTag),
+    (&[0x0E], 0, Reason::BadWireType),
+    (&[0x0F], 0, Reason::BadWireType),
+    (&[0x0C], 0, Reason::LoneEndGroup),
+    (&[0x0B, 0x14], 1, Reason::GroupMismatch),
+    (&[0x0B], 1, Reason::Truncated),
+    (
+        &[
+            0x08, 0xFF, 0xFF, 0xFF, 0xFF, 0xFF, 0xFF, 0xFF, 0xFF, 0xFF, 0xFF, 0x00,
+        ],
+        1,
+        Reason::VarintTooLong,
+    ),
+];
+
+const HEADER_FAULTS: [Refused; 5] = [
+    (&[], 0, Reason::MissingField(Required::Header)),
+    (&[0x0A, 0x00], 2, Reason::MissingField(Required::Version)),
+    (&[0x0A, 0x03, 0x0A, 0x01, 0xFF], 4, Reason::NotText),
+    // A text that a later field overrides is looked at all the same.
+    (
+        &[0x0A, 0x06, 0x0A, 0x01, 0xFF, 0x0A, 0x01, 0x32],
+        4,
+        Reason::NotText,
+    ),
+    (
+        &[0x0A, 0x07, 0x0A, 0x03, 0x32, 0x2E, 0x30, 0x10, 0x01],
+        9,
+        Reason::Differential,
+    ),
+];
+
+const ENTITY_FAULTS: [Refused; 6] = [
+    (&[0x12, 0x00], 2, Reason::MissingField(Required::Id)),
+    (
+        &[0x12, 0x05, 0x0A, 0x01, 0x61, 0x1A, 0x00],
+        7,
+        Reason::MissingField(Required::Trip),
+    ),
+    // A truncated varint behind the slot that is missing comes first.
+    (
+        &[0x12, 0x06, 0x0A, 0x01, 0x61, 0x1A, 0x00, 0x80],
+        7,
+        Reason::Truncated,
+    ),
+    (
+        &[0x12, 0x07, 0x0A, 0x01, 0x61, 0x22, 0x02, 0x12, 0x00],
+        9,
+        Reason::MissingField(Required::Latitude),
+    ),
+    (
+        &[
+            0x12, 0x0C, 0x0A, 0x01, 0x61, 0x22, 0x07, 0x12, 0x05, 0x0D, 0, 0, 0, 0,
+        ],
+        14,
+        Reason::MissingField(Required::Longitude),
+    ),
+    (
+        &[
+            0x12, 0x09, 0x0A, 0x01, 0x61, 0x2A, 0x04, 0x42, 0x02, 0x0A, 0x00,
+        ],
+        11,
+        Reason::MissingField(Required::Text),
+    ),
+];
+
+fn expect_refusals(rt: &impl Abort, alloc: Global, rows: &[Refused]) {
     for (bytes, at, reason) in rows {
-        let want = Refusal { at, reason };
+        let want = Refusal {
+            at: *at,
+            reason: *reason,
+        };
         assert_eq!(rt; check_snapshot(bytes), Err(want), "{bytes:?}");
-        match decode(rt.alloc(), bytes) {
+        match decode(alloc, bytes) {
             Err(fault) => assert_eq!(rt; fault, CodecFault::Refused(want), "{bytes:?}"),
             Ok(_) => panic!(rt; "{bytes:?} accepted"),
         }
     }
+}
+
+#[test]
+fn the_first_fault_of_each_kind_is_named(rt: HostRuntime) {
+    expect_refusals(&rt, rt.alloc(), &WIRE_FAULTS);
+    expect_refusals(&rt, rt.alloc(), &HEADER_FAULTS);
+    expect_refusals(&rt, rt.alloc(), &ENTITY_FAULTS);
+}
+
+#[test]
+fn a_fault_has_its_text(rt: HostRuntime) -> Result<(), Fail> {
+    let refused = CodecFault::Refused(Refusal::new(7, Reason::Truncated));
+    let text = refused.to_string(rt.alloc())?;
+    assert_eq!(rt; text.as_str(), "Refusal { at: 7, reason: Truncated }");
+    let text = CodecFault::Memory.to_string(rt.alloc())?;
+    assert_eq!(rt; text.as_str(), "out of memory");
     Ok(())
 }
 
 #[test]
-fn a_snapshot_that_is_cut_short_is_accepted_at_field_ends_alone(
-    rt: HostRuntime,
-) -> Result<(), Fail> {
+fn a_snapshot_that_is_cut_short_is_accepted_at_field_ends_alone(rt: HostRuntime) {
     // The header ends at 7, the entity at 54, and a field that no reader of version 2.0 knows at 66.
     let whole = vectors::UNKNOWN;
     for n in 0..whole.len() + 1 {
         let accepted = n == 7 || n == 54 || n == 66;
         assert_eq!(rt; check_snapshot(&whole[..n]).is_ok(), accepted, "{n} bytes");
     }
+}
+
+#[test]
+fn a_snapshot_that_is_cut_short_is_refused_where_it_ends(rt: HostRuntime) -> Result<(), Fail> {
+    let whole = vectors::UNKNOWN;
     let rows = [
         (0, 0, Reason::MissingField(Required::Header)),
         (1, 1, Reason::Truncated),
@@ -446,7 +479,12 @@ fn parts_of_a_message_count_together(rt: HostRuntime) -> Result<(), Fail> {
         &[0x0A, 0x01, 0x61, 0x1A, 0x00, 0x1A, 0x02, 0x0A, 0x00],
     )?;
     assert_eq!(rt; check_snapshot(&split), Ok(()));
-    // A trip in two parts: the first gives the trip id, the second the route id and the trip id again.
+    Ok(())
+}
+
+/// A trip in two parts: the first gives the trip id, the second the route id and the trip id again.
+#[test]
+fn parts_of_a_trip_are_one_trip(rt: HostRuntime) -> Result<(), Fail> {
     let fields = [
         0x0A, 0x01, 0x61, 0x1A, 0x06, 0x0A, 0x04, 0x0A, 0x02, 0x54, 0x31, 0x1A, 0x0A, 0x0A, 0x08,
         0x2A, 0x02, 0x52, 0x31, 0x0A, 0x02, 0x54, 0x32,
@@ -461,7 +499,12 @@ fn parts_of_a_message_count_together(rt: HostRuntime) -> Result<(), Fail> {
         },
         None => panic!(rt; "the entity is refused"),
     }
-    // The version and the timestamp in one part of the header, the incrementality in the other.
+    Ok(())
+}
+
+/// The version and the timestamp in one part of the header, the incrementality in the other.
+#[test]
+fn parts_of_a_header_are_one_header(rt: HostRuntime) -> Result<(), Fail> {
     let parts = [0x10, 0x00, 0x18, 0x05, 0x0A, 0x03, 0x32, 0x2E, 0x30];
     assert_eq!(rt; check_header_part(&parts[..4], 2), Ok(()));
     assert_eq!(rt; check_header(&parts, 20), Ok(()));
@@ -487,7 +530,7 @@ fn stepped_entity<L: Ledger>(
     requires one { blank.parts ≡ 1 }
 {
     let mut steps: Steps<L> = Steps::new(blank);
-    match check_entity_payload(bytes) {
+    match check_entity(bytes, 0) {
         Ok(()) => Ok(Some(decode_entity(alloc, bytes, &mut steps)?)),
         Err(_) => Ok(None),
     }
@@ -495,7 +538,7 @@ fn stepped_entity<L: Ledger>(
 
 /// The header that one payload means, where it passes.
 fn joined_header(alloc: Global, parts: &[u8]) -> Result<Option<FeedHeader>, AllocError> {
-    match check_message::<FeedHeader>(parts) {
+    match check_header_part(parts, 0) {
         Ok(()) => Ok(Some(decode_header(alloc, parts)?)),
         Err(_) => Ok(None),
     }

@@ -4,7 +4,7 @@ ghost use Rattle.feed_values.specs.Messages.{vehicle_position};
 ghost use Rattle.feed_values.specs.Views.{vehicle_position_value};
 ghost use Rattle.feed_values.specs.WellFormed.{SlotsFit};
 ghost use Rattle.feed_values.specs.Canonical.{canonical};
-ghost use Rattle.feed_codec.specs.Encoding.{behind};
+ghost use Rattle.feed_codec.specs.Encoding.{position_from_timestamp, held_from_timestamp};
 
 use crate::encoding::{
     Encode, put_bits32, put_bits64, put_enum, put_optional, put_optional_text, put_u32, put_u64,
@@ -23,14 +23,15 @@ impl Encode for VehiclePosition {
     }
 }
 
-/// Appends the slots from the fifth on.
+/// Appends the slots from `timestamp` on.
 fn put_from_timestamp(
     alloc: Global,
     out: &mut Vec<u8>,
     position: &VehiclePosition,
 ) -> Result<(), AllocError>
-    requires { SlotsFit vehicle_position (behind (behind (behind (behind vehicle_position)))) (vehicle_position_value position.now).1.1.1.1 }
-    ensures { OnOk result (out.new.items ≡ out.old.items ++ canonical (behind (behind (behind (behind vehicle_position)))) (vehicle_position_value position.now).1.1.1.1) }
+    requires { SlotsFit vehicle_position position_from_timestamp (held_from_timestamp (vehicle_position_value position.now)) }
+    ensures { OnOk result (out.new.items
+        ≡ out.old.items ++ canonical position_from_timestamp (held_from_timestamp (vehicle_position_value position.now))) }
 {
     put_u64(out, 5, position.timestamp)?;
     put_enum(out, 6, position.congestion_level)?;

@@ -4,7 +4,7 @@ ghost use Rattle.feed_values.specs.Messages.{alert};
 ghost use Rattle.feed_values.specs.Views.{alert_value};
 ghost use Rattle.feed_values.specs.WellFormed.{SlotsFit};
 ghost use Rattle.feed_values.specs.Canonical.{canonical};
-ghost use Rattle.feed_codec.specs.Encoding.{behind};
+ghost use Rattle.feed_codec.specs.Encoding.{alert_from_url, held_from_url};
 
 use crate::encoding::{
     Encode, put_enum, put_i32, put_optional, put_optional_text, put_repeated, put_u64, put_unknown,
@@ -18,14 +18,14 @@ impl Encode for Alert {
         put_repeated(alloc, out, 5, &self.informed_entity)?;
         put_enum(out, 6, self.cause)?;
         put_enum(out, 7, self.effect)?;
-        put_texts(alloc, out, self)
+        put_from_url(alloc, out, self)
     }
 }
 
-/// Appends the slots from the fifth on.
-fn put_texts(alloc: Global, out: &mut Vec<u8>, message: &Alert) -> Result<(), AllocError>
-    requires { SlotsFit alert (behind (behind (behind (behind alert)))) (alert_value message.now).1.1.1.1 }
-    ensures { OnOk result (out.new.items ≡ out.old.items ++ canonical (behind (behind (behind (behind alert)))) (alert_value message.now).1.1.1.1) }
+/// Appends the slots from `url` on.
+fn put_from_url(alloc: Global, out: &mut Vec<u8>, message: &Alert) -> Result<(), AllocError>
+    requires { SlotsFit alert alert_from_url (held_from_url (alert_value message.now)) }
+    ensures { OnOk result (out.new.items ≡ out.old.items ++ canonical alert_from_url (held_from_url (alert_value message.now))) }
 {
     put_optional(alloc, out, 8, &message.url)?;
     put_optional(alloc, out, 10, &message.header_text)?;
