@@ -80,12 +80,6 @@ cited_all answer at cs all h =
     let r = cited_formed answer at [] cs all h in
     rw r.is r.formed
 
-pub formed_length : (at : Place) (vs : List CellValue) (cs : List Cite) (fs : List Fact) → IsFormed at vs cs fs → length cs ≡ length fs
-formed_length at vs [] [] h = refl
-formed_length at vs [] (f ∷ fs) h = absurd h
-formed_length at vs (c ∷ cs) [] h = absurd h
-formed_length at vs (c ∷ cs) (f ∷ fs) h = ap suc (formed_length at (vs ++ f.value ∷ []) cs fs h.2)
-
 -- ---- nothing is found where the row isn't broken
 
 not_found : (rule : RuleId) (at : Place) (o : Option (List Fact)) → do_break at (test_at rule at) o ≡ false → found_of rule at o ≡ []

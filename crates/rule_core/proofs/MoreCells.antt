@@ -1,9 +1,5 @@
 -- Cited cells, one more.
-use Rattle.std.proofs.Common.{◌≡◌, ◌<◌, ◌+◌, ℕ, length, List, [], ◌∷◌, ◌++◌, map, take, slice_set, sym, ◌∙◌, ap, arith, suc, drop, append_assoc}
-use Rattle.std.proofs.Math.ListN.{get_or}
-use Rattle.std.proofs.Math.Seq.{drop-cons}
-use Rattle.rule_core.specs.declared.fact.Fact.{Fact}
-use Rattle.rule_core.specs.Cited.{values_of}
+use Rattle.std.proofs.Common.{◌≡◌, ◌<◌, ◌+◌, ℕ, length, List, [], ◌∷◌, ◌++◌, map, take, slice_set, ◌∙◌, ap, arith}
 use Rattle.std.proofs.lemmas.List.{take_more_set, map-append, length-append, length-take-le, length-map}
 use Rattle.feed_values.specs.declared.cell_ref.CellRef.{CellRef}
 use Rattle.feed_values.specs.Cells.{cell_value}
@@ -15,16 +11,3 @@ cells_more cells k cell h = ap (map cell_value) (take_more_set cells k cell h) �
 pub cells_count : (cells : List CellRef) (k : ℕ) (cell : CellRef) → k < length cells → k < length (map cell_value (take k cells) ++ cell_value cell ∷ [])
 cells_count cells k cell h =
     rw (length-append (map cell_value (take k cells)) (cell_value cell ∷ []), length-map (take k cells) cell_value, length-take-le k cells (omega (arith, h))) (omega arith)
-
--- the values of facts, as many taken over as there are cells
-pub facts_more : (cells : List CellRef) (k : ℕ) (cell : CellRef) (facts : List Fact) (d : Fact) → k < length cells → k < length facts → cell_value cell ≡ (let f : Fact = get_or facts k d in f.value)
-    → map cell_value (take k cells) ++ values_of (drop k facts) ≡ values_of facts
-    → map cell_value (take (k + 1) (slice_set cells k cell)) ++ values_of (drop (k + 1) facts) ≡ values_of facts
-facts_more cells k cell facts d h i e so =
-    let next : suc k ≡ k + 1 = omega arith in
-    ap (λ vs. vs ++ values_of (drop (k + 1) facts)) (cells_more cells k cell h)
-    ∙ append_assoc (map cell_value (take k cells)) (cell_value cell ∷ []) (values_of (drop (k + 1) facts))
-    ∙ ap (λ v. map cell_value (take k cells) ++ v ∷ values_of (drop (k + 1) facts)) e
-    ∙ ap (λ j. map cell_value (take k cells) ++ values_of (get_or facts k d ∷ drop j facts)) (sym next)
-    ∙ ap (λ fs. map cell_value (take k cells) ++ values_of fs) (sym (drop-cons facts k d i))
-    ∙ so

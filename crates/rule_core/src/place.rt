@@ -51,7 +51,7 @@ impl PlaceRef<'_> {
     }
 
     /// Its slot.
-    pub(crate) fn slot(self) -> Slot
+    pub fn slot(self) -> Slot
         ensures { result ≡ slot_of (place_value self.entry) }
     {
         match self {
@@ -61,7 +61,7 @@ impl PlaceRef<'_> {
     }
 
     /// Its index, 0 on a header.
-    pub(crate) fn index(self) -> u32
+    pub fn index(self) -> u32
         ensures { result ≡ index_of (place_value self.entry) }
     {
         match self {
