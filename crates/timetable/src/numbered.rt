@@ -1,6 +1,6 @@
 //! Ids by number, with what stands under them.
 
-ghost use Rattle.std.specs.Prelude.{◌≡◌, ◌<◌, [], None, Some, IfNone, IfSome, length, option_map, slice_get};
+ghost use Rattle.std.specs.Prelude.{◌≡◌, ◌<◌, [], None, Some, IfNone, IfSome, is_some, length, option_map, slice_get};
 ghost use Rattle.std.specs.FinMap as map;
 ghost use Rattle.timetable.specs.Numbers.{HasNumber, map_of};
 ghost use Rattle.timetable.specs.Maps.{Text, by_text};
@@ -56,6 +56,7 @@ impl<G: Drop> Numbered<G> {
         ensures found { IfSome result (λ n. HasNumber self.now n id.now) }
         ensures within { IfSome result (λ n. n < length self.now) }
         ensures none { IfNone result (map.get (map_of self.now) id.now ≡ None) }
+        ensures known { is_some result ≡ is_some (map.get (map_of self.now) id.now) }
     {
         match self.groups.get_index_of(id) {
             Some(number) => Some(number),

@@ -174,6 +174,7 @@ impl Timetable {
         ensures found { IfSome result (λ trip. IsTripOf self.now trip id.now) }
         ensures within { IfSome result (IsTrip self.now) }
         ensures none { IfNone result (map.get (tables_in self.now).trips id.now ≡ None) }
+        ensures known { is_some result ≡ is_some (map.get (tables_in self.now).trips id.now) }
     {
         match self.trips.number(id) {
             Some(number) => Some(TripNo { number }),

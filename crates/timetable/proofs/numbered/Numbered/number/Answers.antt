@@ -1,7 +1,7 @@
-use Rattle.std.proofs.Common.{ap, is_some, sym, ◌∙◌}
+use Rattle.std.proofs.Common.{ap, is_some, sym, ◌∙◌, true, false}
 use Rattle.std.specs.FinMap as map
 use Rattle.timetable.specs.Numbers.{map_of}
-use Rattle.timetable.proofs.MapLemmas.{get_text, none_of}
+use Rattle.timetable.proofs.MapLemmas.{get_text, is_some-get, none_of}
 use Rattle.timetable.proofs.NumberLemmas.{number_has}
 use Rattle.timetable.proofs.numbered.Numbered.number.Goals as goal
 
@@ -14,3 +14,11 @@ pub returns-in-Some-clause-found : goal.returns-in-Some-clause-found
 returns-in-Some-clause-found g c =
     let number = sym c.get_index_of.ensures.index ∙ c.in-Some.is in
     rw (← c.self.view_is) (number_has c.self.inside.groups.entries c.args.id.now _ number)
+
+pub returns-in-Some-clause-known : goal.returns-in-Some-clause-known
+returns-in-Some-clause-known g c =
+    sym (is_some-get c.self.inside.groups.entries c.args.id.now (map_of c.args.self.now) true (ap map_of c.self.view_is) (sym (ap is_some c.in-Some.is) ∙ c.get_index_of.ensures.found))
+
+pub returns-in-None-clause-known : goal.returns-in-None-clause-known
+returns-in-None-clause-known g c =
+    sym (is_some-get c.self.inside.groups.entries c.args.id.now (map_of c.args.self.now) false (ap map_of c.self.view_is) (sym (ap is_some c.in-None.is) ∙ c.get_index_of.ensures.found))

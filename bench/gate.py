@@ -1,0 +1,145 @@
+#!/usr/bin/env python3
+"""Where the gate's time goes.
+
+    python3 bench/gate.py [CRATE..]
+
+Runs `rt ci --anew`, or `rt ci --anew CRATE..`, and prints the processor minutes of each crate's proofs, of its tests and of
+its must-fail edits, then the twenty slowest edits, and the twenty functions before whose line the log waited longest (four
+functions are checked at a time, so this names a slow function and doesn't measure it). The last line has the minutes on the
+clock, those of all processors, and how rt ci ended.
+"""
+
+import collections
+import os
+import re
+import subprocess
+import sys
+import threading
+import time
+
+TICKS = os.sysconf("SC_CLK_TCK")
+TOP = subprocess.run(["git", "rev-parse", "--show-toplevel"], capture_output=True, text=True, check=True).stdout.strip()
+
+
+def read(path):
+    try:
+        with open(path, "rb") as file:
+            return file.read()
+    except OSError:
+        return b""
+
+
+def processes():
+    """Each process by number: its parent, and its processor seconds."""
+    found = {}
+    for name in filter(str.isdigit, os.listdir("/proc")):
+        text = read(f"/proc/{name}/stat").decode(errors="replace")
+        if text:
+            fields = text[text.rindex(")") + 2 :].split()
+            found[int(name)] = int(fields[1]), (int(fields[11]) + int(fields[12])) / TICKS
+    return found
+
+
+def descendants(root, table):
+    children = collections.defaultdict(list)
+    for number, (parent, _) in table.items():
+        children[parent].append(number)
+    found, left = [], [root]
+    while left:
+        number = left.pop()
+        found.append(number)
+        left.extend(children[number])
+    return found
+
+
+def work_of(number):
+    """What a process works on: a crate, a kind of work, and the folder of an edit."""
+    words = read(f"/proc/{number}/cmdline").decode(errors="replace").split("\0")
+    try:
+        folder = os.readlink(f"/proc/{number}/cwd")
+    except OSError:
+        folder = ""
+    if "--crate-name" not in words:
+        return None
+    crate = words[words.index("--crate-name") + 1]
+    if "/rt-edit" in folder:
+        return crate, "edits", folder
+    return crate, "tests" if "--test" in words else "proofs", ""
+
+
+def edit_in(crate, folder):
+    """The name of the edit that a folder has, by the text that it put there."""
+    at = f"{TOP}/crates/{crate}/must-fail"
+    for name in sorted(os.listdir(at)) if os.path.isdir(at) else []:
+        text = read(f"{at}/{name}").decode(errors="replace")
+        source = re.search(r"^file: (.*)$", text, re.M)
+        news = [line[4:].strip() for line in text.split("\n") if line.startswith("new:")]
+        if source and news and news[-1] in read(f"{folder}/{source[1].strip()}").decode(errors="replace"):
+            return f"{crate}/{name}"
+    return None
+
+
+class Meter(threading.Thread):
+    """Adds up the processor time of a process and all below it, by what they work on."""
+
+    def __init__(self, root):
+        super().__init__(daemon=True)
+        self.root, self.seconds, self.works, self.names, self.ended = root, {}, {}, {}, False
+
+    def run(self):
+        while not self.ended:
+            table = processes()
+            for number in descendants(self.root, table):
+                if number in table:
+                    self.seconds[number] = table[number][1]
+                    if self.works.get(number) is None:
+                        self.works[number] = work_of(number)
+                    work = self.works[number]
+                    if work and work[2] and work[2] not in self.names:
+                        self.names[work[2]] = edit_in(work[0], work[2])
+            time.sleep(0.4)
+
+
+def main():
+    begin = time.monotonic()
+    child = subprocess.Popen(["rt", "ci", "--anew", *sys.argv[1:]], cwd=TOP, text=True, stdout=subprocess.PIPE, stderr=subprocess.STDOUT)
+    meter = Meter(child.pid)
+    meter.start()
+    waits, last, closing = [], collections.defaultdict(time.monotonic), ""
+    for line in child.stdout:
+        closing = line.strip() or closing
+        told = re.match(r"checked (([a-z0-9_]+)::\S+), \d+ of \d+", line)
+        if told:
+            now = time.monotonic()
+            waits.append((now - last[told[2]], told[1]))
+            last[told[2]] = now
+    status = child.wait()
+    meter.ended = True
+    meter.join()
+    by_crate, by_edit, other = collections.defaultdict(collections.Counter), collections.Counter(), 0.0
+    for number, seconds in meter.seconds.items():
+        work = meter.works.get(number)
+        if work is None:
+            other += seconds
+            continue
+        by_crate[work[0]][work[1]] += seconds
+        if work[2]:
+            by_edit[meter.names.get(work[2]) or f"{work[0]}/?"] += seconds
+    kinds = ("proofs", "tests", "edits")
+    print(f"{'processor minutes':24}" + "".join(f"{kind:>9}" for kind in kinds))
+    for crate in sorted(by_crate):
+        print(f"{crate:24}" + "".join(f"{by_crate[crate][kind] / 60:9.1f}" for kind in kinds))
+    sums = [sum(row[kind] for row in by_crate.values()) for kind in kinds]
+    print(f"{'all crates':24}" + "".join(f"{seconds / 60:9.1f}" for seconds in sums))
+    print("\nslowest edits, in processor seconds")
+    for name, seconds in by_edit.most_common(20):
+        print(f"{seconds:7.0f} {name}")
+    print("\nlongest waits before a function's line, in seconds")
+    for seconds, name in sorted(waits, reverse=True)[:20]:
+        print(f"{seconds:7.0f} {name}")
+    print(f"\n{(time.monotonic() - begin) / 60:.1f} minutes, {(sum(sums) + other) / 60:.1f} of all processors; {closing}")
+    return status
+
+
+if __name__ == "__main__":
+    sys.exit(main())

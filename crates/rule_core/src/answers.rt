@@ -1,0 +1,18 @@
+//! What answers asks.
+ghost use Rattle.std.specs.Prelude.{◌≡◌, Option};
+ghost use Rattle.std.specs.Option.{option_map};
+ghost use Rattle.rule_core.specs.declared.ask.Ask.{Ask};
+ghost use Rattle.rule_core.specs.Asked.{ask_value};
+ghost use Rattle.feed_values.specs.declared.cell_value.CellValue.{CellValue};
+ghost use Rattle.feed_values.specs.Cells.{cell_value};
+
+use crate::ask::AskRef;
+use feed_values::CellRef;
+
+/// What answers asks, without memory: an entity with a timetable, headers, pairing rows.
+pub trait Answers {
+    ghost answers: { Self → Ask → Option CellValue };
+
+    fn answer<'a>(&'a self, ask: AskRef<'_>) -> Option<CellRef<'a>>
+        ensures { option_map cell_value result ≡ answers self.now (ask_value ask.entry) };
+}

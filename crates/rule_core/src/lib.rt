@@ -1,0 +1,49 @@
+//! The rules of a feed as the rows of one table, and what is said of every row: where a rule is judged, which facts it
+//! cites there, and when they break it.
+//!
+//! `specs/Table.antt` is the table, and `table` the same as code; the contracts of `table` say that they are equal. A
+//! rule is a row and has no code of its own. `judge_rule` and `judge_head` judge a row at an entity and on a header, with
+//! whatever `Answers` its asks. A place where the rule doesn't break takes no memory: cells are read borrowed, and a
+//! condition is tested as soon as its last cell is read.
+//!
+//! A `Finding` is a rule, a place and the facts that it cites there. They break the rule, in every finding that there
+//! is, so a finding can be shown by itself.
+#![tactic(auto)]
+
+mod answers;
+mod ask;
+mod asking;
+mod cells;
+mod citing;
+mod fact;
+mod finding;
+mod finding_list;
+mod judging;
+mod key;
+mod kind;
+mod laws;
+mod passing;
+mod place;
+mod row;
+mod rule;
+mod table;
+
+pub use answers::Answers;
+pub use ask::{Ask, AskRef};
+pub use asking::ask_of;
+pub use cells::{cell_of, is_in_range};
+pub use citing::{cite, is_broken};
+pub use fact::{Fact, FactRef};
+pub use finding::Finding;
+pub use finding_list::FindingList;
+pub use judging::{judge_head, judge_rule};
+pub use key::EntityKey;
+pub use kind::Kind;
+pub use laws::evidence_is_found;
+pub use passing::test_passes;
+pub use place::{Place, PlaceRef};
+pub use row::{Atom, Cite};
+pub use rule::RuleId;
+pub use table::{
+    cites, cites_at, first, head_cites, head_slots, head_test, slots, slots_at, test, test_at,
+};
