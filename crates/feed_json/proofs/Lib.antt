@@ -1,0 +1,10 @@
+pub mod Floats
+pub mod Groups
+pub mod Holding
+pub mod Lists
+pub mod Members
+pub mod Names
+pub mod Numbers
+pub mod Residuals
+pub mod RoundTrip
+pub mod Walking

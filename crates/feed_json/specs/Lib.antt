@@ -1,0 +1,6 @@
+pub mod Faults
+pub mod Form
+pub mod Holds
+pub mod Reads
+pub mod Unform
+pub mod Walk

@@ -1,0 +1,98 @@
+//! Alerts and what they hold, in JSON.
+
+use crate::json_fault::JsonFault;
+use crate::message::{Form, optional_message, repeated};
+use crate::reading::{optional_enum, optional_i32, optional_text, optional_u64};
+use crate::unknown::{put_unknown, unknown_fields};
+use crate::writing::{put_i32, put_optional, put_optional_text, put_repeated, put_u32, put_u64};
+use feed_values::{Alert, EntitySelector, TimeRange};
+use serde_json::{Map, Value};
+use std::alloc::{AllocError, Global};
+
+impl Form for Alert {
+    fn knows(key: &str) -> bool {
+        key == "active_period"
+            || key == "informed_entity"
+            || key == "cause"
+            || key == "effect"
+            || key == "url"
+            || key == "header_text"
+            || key == "description_text"
+            || key == "unknown"
+    }
+
+    fn read(alloc: Global, value: &Value) -> Result<Alert, JsonFault> {
+        Ok(Alert {
+            active_period: repeated(alloc, value, "active_period")?,
+            informed_entity: repeated(alloc, value, "informed_entity")?,
+            cause: optional_enum(alloc, value, "cause", 1, 12)?,
+            effect: optional_enum(alloc, value, "effect", 1, 9)?,
+            url: optional_message(alloc, value, "url")?,
+            header_text: optional_message(alloc, value, "header_text")?,
+            description_text: optional_message(alloc, value, "description_text")?,
+            unknown: unknown_fields::<Alert>(alloc, value)?,
+        })
+    }
+
+    fn put(&self, alloc: Global, members: &mut Map<String, Value>) -> Result<(), AllocError> {
+        put_repeated(alloc, members, "active_period", &self.active_period)?;
+        put_repeated(alloc, members, "informed_entity", &self.informed_entity)?;
+        put_u32(alloc, members, "cause", self.cause)?;
+        put_u32(alloc, members, "effect", self.effect)?;
+        put_optional(alloc, members, "url", &self.url)?;
+        put_optional(alloc, members, "header_text", &self.header_text)?;
+        put_optional(alloc, members, "description_text", &self.description_text)?;
+        put_unknown(alloc, members, &self.unknown)
+    }
+}
+
+impl Form for TimeRange {
+    fn knows(key: &str) -> bool {
+        key == "start" || key == "end" || key == "unknown"
+    }
+
+    fn read(alloc: Global, value: &Value) -> Result<TimeRange, JsonFault> {
+        Ok(TimeRange {
+            start: optional_u64(alloc, value, "start")?,
+            end: optional_u64(alloc, value, "end")?,
+            unknown: unknown_fields::<TimeRange>(alloc, value)?,
+        })
+    }
+
+    fn put(&self, alloc: Global, members: &mut Map<String, Value>) -> Result<(), AllocError> {
+        put_u64(alloc, members, "start", self.start)?;
+        put_u64(alloc, members, "end", self.end)?;
+        put_unknown(alloc, members, &self.unknown)
+    }
+}
+
+impl Form for EntitySelector {
+    fn knows(key: &str) -> bool {
+        key == "agency_id"
+            || key == "route_id"
+            || key == "route_type"
+            || key == "trip"
+            || key == "stop_id"
+            || key == "unknown"
+    }
+
+    fn read(alloc: Global, value: &Value) -> Result<EntitySelector, JsonFault> {
+        Ok(EntitySelector {
+            agency_id: optional_text(alloc, value, "agency_id")?,
+            route_id: optional_text(alloc, value, "route_id")?,
+            route_type: optional_i32(alloc, value, "route_type")?,
+            trip: optional_message(alloc, value, "trip")?,
+            stop_id: optional_text(alloc, value, "stop_id")?,
+            unknown: unknown_fields::<EntitySelector>(alloc, value)?,
+        })
+    }
+
+    fn put(&self, alloc: Global, members: &mut Map<String, Value>) -> Result<(), AllocError> {
+        put_optional_text(alloc, members, "agency_id", &self.agency_id)?;
+        put_optional_text(alloc, members, "route_id", &self.route_id)?;
+        put_i32(alloc, members, "route_type", self.route_type)?;
+        put_optional(alloc, members, "trip", &self.trip)?;
+        put_optional_text(alloc, members, "stop_id", &self.stop_id)?;
+        put_unknown(alloc, members, &self.unknown)
+    }
+}

@@ -1,0 +1,93 @@
+//! The snapshot, its header and its entities, in JSON.
+
+use crate::json_fault::JsonFault;
+use crate::message::{Form, needed_message, optional_message, repeated};
+use crate::reading::{needed_text, optional_bool, optional_enum, optional_u64};
+use crate::unknown::{put_unknown, unknown_fields};
+use crate::writing::{
+    put_bool, put_message, put_optional, put_repeated, put_text, put_u32, put_u64,
+};
+use feed_values::{Entity, FeedHeader, FeedMessage};
+use serde_json::{Map, Value};
+use std::alloc::{AllocError, Global};
+
+impl Form for FeedMessage {
+    fn knows(key: &str) -> bool {
+        key == "header" || key == "entity" || key == "unknown"
+    }
+
+    fn read(alloc: Global, value: &Value) -> Result<FeedMessage, JsonFault> {
+        Ok(FeedMessage {
+            header: needed_message(alloc, value, "header")?,
+            entity: repeated(alloc, value, "entity")?,
+            unknown: unknown_fields::<FeedMessage>(alloc, value)?,
+        })
+    }
+
+    fn put(&self, alloc: Global, members: &mut Map<String, Value>) -> Result<(), AllocError> {
+        put_message(alloc, members, "header", &self.header)?;
+        put_repeated(alloc, members, "entity", &self.entity)?;
+        put_unknown(alloc, members, &self.unknown)
+    }
+}
+
+impl Form for FeedHeader {
+    fn knows(key: &str) -> bool {
+        key == "gtfs_realtime_version"
+            || key == "incrementality"
+            || key == "timestamp"
+            || key == "unknown"
+    }
+
+    fn read(alloc: Global, value: &Value) -> Result<FeedHeader, JsonFault> {
+        Ok(FeedHeader {
+            gtfs_realtime_version: needed_text(alloc, value, "gtfs_realtime_version")?,
+            incrementality: optional_enum(alloc, value, "incrementality", 0, 1)?,
+            timestamp: optional_u64(alloc, value, "timestamp")?,
+            unknown: unknown_fields::<FeedHeader>(alloc, value)?,
+        })
+    }
+
+    fn put(&self, alloc: Global, members: &mut Map<String, Value>) -> Result<(), AllocError> {
+        put_text(
+            alloc,
+            members,
+            "gtfs_realtime_version",
+            &self.gtfs_realtime_version,
+        )?;
+        put_u32(alloc, members, "incrementality", self.incrementality)?;
+        put_u64(alloc, members, "timestamp", self.timestamp)?;
+        put_unknown(alloc, members, &self.unknown)
+    }
+}
+
+impl Form for Entity {
+    fn knows(key: &str) -> bool {
+        key == "id"
+            || key == "is_deleted"
+            || key == "trip_update"
+            || key == "vehicle"
+            || key == "alert"
+            || key == "unknown"
+    }
+
+    fn read(alloc: Global, value: &Value) -> Result<Entity, JsonFault> {
+        Ok(Entity {
+            id: needed_text(alloc, value, "id")?,
+            is_deleted: optional_bool(alloc, value, "is_deleted")?,
+            trip_update: optional_message(alloc, value, "trip_update")?,
+            vehicle: optional_message(alloc, value, "vehicle")?,
+            alert: optional_message(alloc, value, "alert")?,
+            unknown: unknown_fields::<Entity>(alloc, value)?,
+        })
+    }
+
+    fn put(&self, alloc: Global, members: &mut Map<String, Value>) -> Result<(), AllocError> {
+        put_text(alloc, members, "id", &self.id)?;
+        put_bool(alloc, members, "is_deleted", self.is_deleted)?;
+        put_optional(alloc, members, "trip_update", &self.trip_update)?;
+        put_optional(alloc, members, "vehicle", &self.vehicle)?;
+        put_optional(alloc, members, "alert", &self.alert)?;
+        put_unknown(alloc, members, &self.unknown)
+    }
+}
