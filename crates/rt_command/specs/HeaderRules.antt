@@ -6,6 +6,9 @@ use Rattle.std.specs.Str.{bytes_eq}
 use Rattle.feed_values.specs.Schema.{Value}
 use Rattle.feed_values.specs.Messages.{feed_header}
 use Rattle.feed_values.specs.Snapshot.{version_of, incrementality_of, timestamp_of}
+use Rattle.feed_values.specs.declared.slot.Slot.{Slot}
+use Rattle.feed_values.specs.declared.slot.Slot.TheVariants.{S1, S2, S3}
+use Rattle.feed_values.specs.Cells.{path_text}
 use Rattle.rt_command.specs.declared.header_rule.HeaderSlot.{HeaderSlot}
 use Rattle.rt_command.specs.declared.header_rule.HeaderSlot.TheVariants.{Version, Incrementality, Timestamp}
 use Rattle.rt_command.specs.declared.header_rule.HeaderRule.{HeaderRule}
@@ -45,10 +48,15 @@ level rule = take 1 (name rule)
 abbrev pub is_error : HeaderRule → Bool
 is_error rule = bytes_eq (level rule) (codes "E") || bytes_eq (level rule) (codes "X")
 
+-- the slot of the feed
+abbrev pub slot_of : HeaderSlot → Slot
+slot_of Version = S1
+slot_of Incrementality = S2
+slot_of Timestamp = S3
+
+-- a slot as a finding prints it
 abbrev pub path : HeaderSlot → List ℕ
-path Version = codes "header.gtfs_realtime_version"
-path Incrementality = codes "header.incrementality"
-path Timestamp = codes "header.timestamp"
+path slot = path_text (slot_of slot) 0
 
 -- the cell of a number of a header, none of which is negative
 abbrev pub number_cell : Option ℤ → Cell

@@ -2,6 +2,8 @@
 ghost use Rattle.std.specs.Prelude.{◌≡◌};
 ghost use Rattle.rt_command.specs.HeaderRules.{row, name, level, is_error, path};
 
+use feed_values::Slot;
+
 /// A slot of the header.
 #[derive(Clone, Copy, Debug, PartialEq, Eq)]
 pub enum HeaderSlot {
@@ -41,9 +43,9 @@ impl HeaderSlot {
         ensures { result.now ≡ path self }
     {
         match self {
-            HeaderSlot::Version => "header.gtfs_realtime_version",
-            HeaderSlot::Incrementality => "header.incrementality",
-            HeaderSlot::Timestamp => "header.timestamp",
+            HeaderSlot::Version => Slot::S1.text(),
+            HeaderSlot::Incrementality => Slot::S2.text(),
+            HeaderSlot::Timestamp => Slot::S3.text(),
         }
     }
 }
