@@ -1,7 +1,7 @@
 //! Files that are absent, too large, or not read.
 
 use crate::timetables::{DATES, FILES, TOWN, fault_of};
-use rt_outside::{Failed, Files, MemoryFiles, Opening};
+use rt_outside::{Failed, Files, MemoryFiles, Opening, QuietFiles};
 use std::alloc::Global;
 use std::test::Fail;
 use timetable::{LoadFault, Timetable};
@@ -48,7 +48,7 @@ fn an_absent_timetable_is_not_present(rt: HostRuntime) {
 /// A town with all eight files, of which one is lengthened by line feeds, which are no rows, to `size` bytes.
 #[derive(Drop)]
 struct Lengthened {
-    files: MemoryFiles,
+    files: QuietFiles,
     name: &'static str,
     size: usize,
     given: Option<usize>,
@@ -87,8 +87,13 @@ fn fault_at_size(
     name: &'static str,
     size: usize,
 ) -> Result<Option<LoadFault>, Fail> {
+    let mut town = QuietFiles::new(alloc);
+    for (name, bytes) in TOWN {
+        town.add(name, bytes)?;
+    }
+    town.add(DATES.0, DATES.1)?;
     let mut files = Lengthened {
-        files: town_without(alloc, "")?,
+        files: town,
         name,
         size,
         given: None,
