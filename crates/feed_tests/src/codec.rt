@@ -6,11 +6,7 @@ use feed_codec::{
     CodecFault, Reason, Refusal, Required, check_entity, check_header, check_header_part,
     check_snapshot, decode, decode_entity, decode_header,
 };
-use feed_values::{
-    Alert, Entity, EntitySelector, FeedHeader, StopTimeEvent, StopTimeUpdate, Text, TimeRange,
-    Translation, TripDescriptor, TripUpdate, Unknown, UnknownValue, VehicleDescriptor,
-    VehiclePosition,
-};
+use feed_values::{Alert, Entity, EntitySelector, FeedHeader, Position, StopTimeEvent, StopTimeUpdate, Text, TimeRange, Translation, TripDescriptor, TripUpdate, Unknown, UnknownValue, VehicleDescriptor, VehiclePosition};
 use rt_outside::Steps;
 use std::alloc::{AllocError, Global};
 use std::marker::Brand;
@@ -102,6 +98,14 @@ fn expect_trip_update(rt: &impl Abort, update: &TripUpdate) {
     }
 }
 
+fn expect_place(rt: &impl Abort, place: &Position) {
+    assert_eq!(rt; place.latitude, 1_111_638_594);
+    assert_eq!(rt; place.longitude, 3_268_215_931);
+    assert_eq!(rt; place.bearing, Some(1_119_092_736));
+    assert_eq!(rt; place.odometer, Some(4_683_220_244_930_494_464));
+    assert_eq!(rt; place.speed, Some(1_092_616_192));
+}
+
 fn expect_position(rt: &impl Abort, held: &VehiclePosition) {
     match &held.trip {
         Some(trip) => expect_trip(
@@ -113,13 +117,7 @@ fn expect_position(rt: &impl Abort, held: &VehiclePosition) {
         None => panic!(rt; "no trip"),
     }
     match &held.position {
-        Some(place) => {
-            assert_eq!(rt; place.latitude, 1_111_638_594);
-            assert_eq!(rt; place.longitude, 3_268_215_931);
-            assert_eq!(rt; place.bearing, Some(1_119_092_736));
-            assert_eq!(rt; place.odometer, Some(4_683_220_244_930_494_464));
-            assert_eq!(rt; place.speed, Some(1_092_616_192));
-        }
+        Some(place) => expect_place(rt, place),
         None => panic!(rt; "no position"),
     }
     expect_vehicle(rt, &held.vehicle, ["V2", "Tram 2", "CD-456"]);

@@ -24,4 +24,5 @@ pub record JoinMeansAll : Type 0 where
   -- a singular message slot holds the meaning of the join of all its payloads
   pub slot : (whole : Schema) (n : ℕ) (name : String) (presence : Presence) (m rest : Schema) (l : List WireField)
       → AllByRecursion IsFieldList (given (in_slot payload_in n) l)
-      → (slots_of whole (schema.message n name presence m rest) l).0 ≡ held presence (blank m) (meaning_of_join m (given (in_slot payload_in n) l))
+      → (slots_of whole (schema.message n name presence m rest) l).0
+      ≡ held presence (blank m) (meaning_of_join m (given (in_slot payload_in n) l))

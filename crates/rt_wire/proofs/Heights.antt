@@ -1,6 +1,6 @@
 -- The depth of a list of fields is the greatest height of its groups.
-use Rattle.std.proofs.Common.{◌≡◌, ℕ, zero, suc, ◌+◌, ◌≤◌, max, List, [], ◌∷◌, ◌⊎◌, inl, inr, refl, sym, ap, subst, arith}
-use Rattle.rt_wire.specs.Fields.{WireValue, Varint, Fixed64, Len, Group, Fixed32, WireField, NoGroup, Joins, Spells, ValueSpelled, FieldSpelled}
+use Rattle.std.proofs.Common.{◌≡◌, ℕ, zero, suc, ◌≤◌, List, [], ◌∷◌, ◌⊎◌, inl, inr, refl, sym, ap, subst, arith}
+use Rattle.rt_wire.specs.Fields.{WireValue, Varint, Fixed64, Len, Group, Fixed32, WireField, NoGroup, Joins, Spells, ValueSpelled}
 use Rattle.rt_wire.specs.Depth.{IsGroupDepth, Nest, no_field, plain, group, greatest_height, NestsAs, DepthIsHeight}
 use Rattle.rt_wire.proofs.Sound.{joins_more, spells_more, plain_spells}
 use Rattle.rt_wire.proofs.Whole.{spelling_is_unique}
