@@ -1,5 +1,5 @@
 -- Payloads that pass by themselves, taken together.
-use Rattle.std.proofs.Common.{◌≡◌, ℕ, ◌≤◌, Bool, true, false, cond, eqb, List, [], ◌∷◌, ◌++◌, append_assoc, length, map, Option, Some, None, Result, Ok, Err, refl, sym, ap, subst, ◌∙◌, rules}
+use Rattle.std.proofs.Common.{◌≡◌, ℕ, ◌≤◌, Bool, true, false, cond, eqb, List, [], ◌∷◌, ◌++◌, append_assoc, length, Option, Some, None, Result, Ok, Err, refl, sym, ap, subst, ◌∙◌, rules}
 use Rattle.std.specs.Option.{option_map, option_or}
 use Rattle.std.specs.List.{flat_map, AllByRecursion, concat}
 use Rattle.std.specs.Prelude.{IfOk}
@@ -7,8 +7,7 @@ use Rattle.std.specs.declared.alloc.AllocError.{AllocError}
 use Rattle.std.proofs.lemmas.Bool.{le-ltb, eqb-true}
 use Rattle.rt_wire.specs.declared.fault.WireFault.{WireFault}
 use Rattle.rt_wire.specs.Fields.{IsBytes, WireField, Joins, Spells}
-use Rattle.rt_wire.specs.Placed.{PlacedField, placed_fields, placed_fields_from, moved}
-use Rattle.rt_wire.proofs.Whole.{spelled_is_read, join_is_read}
+use Rattle.rt_wire.specs.Placed.{PlacedField, placed_fields}
 use Rattle.feed_values.specs.declared.required.Required.{Required}
 use Rattle.feed_values.specs.declared.required.Required.TheVariants as required
 use Rattle.feed_values.specs.declared.feed_header.FeedHeader.{FeedHeader}

@@ -1,15 +1,11 @@
 -- What is missing in an entity is the first required slot in their order that it lacks.
-use Rattle.std.proofs.Common.{◌≡◌, ℕ, Bool, true, false, not, cond, ◌&&◌, ◌||◌, List, [], ◌∷◌, Option, Some, None, refl, ◌∙◌}
+use Rattle.std.proofs.Common.{◌≡◌, Bool, true, false, not, cond, ◌&&◌, ◌||◌, [], ◌∷◌, Option, Some, None, refl, ◌∙◌}
 use Rattle.std.specs.Option.{option_or}
-use Rattle.std.specs.Prelude.{find}
-use Rattle.rt_wire.specs.Fields.{WireField}
 use Rattle.feed_values.specs.declared.required.Required.{Required}
 use Rattle.feed_values.specs.declared.required.Required.TheVariants.{Id, Trip, Latitude, Longitude, Text}
-use Rattle.feed_values.specs.Messages.{entity}
-use Rattle.feed_values.specs.Accepted.{missing}
 use Rattle.feed_codec.specs.declared.paths.Sought.TheVariants.{Fixed32}
 use Rattle.feed_codec.specs.Paths.{holds, is_sought}
-use Rattle.feed_codec.specs.Missing.{is_there, has_blank_translation, lacks, required_order, MissingIsFirst}
+use Rattle.feed_codec.specs.Missing.{is_there, has_blank_translation, MissingIsFirst}
 use Rattle.feed_codec.proofs.RequiredSlots.{missing_trip, missing_coordinate, missing_text, missing_entity}
 
 -- the first of five that is lacking, in order

@@ -6,7 +6,11 @@ use feed_codec::{
     CodecFault, Reason, Refusal, Required, check_entity, check_header, check_header_part,
     check_snapshot, decode, decode_entity, decode_header,
 };
-use feed_values::{Alert, Entity, EntitySelector, FeedHeader, Position, StopTimeEvent, StopTimeUpdate, Text, TimeRange, Translation, TripDescriptor, TripUpdate, Unknown, UnknownValue, VehicleDescriptor, VehiclePosition};
+use feed_values::{
+    Alert, Entity, EntitySelector, FeedHeader, Position, StopTimeEvent, StopTimeUpdate, Text,
+    TimeRange, Translation, TripDescriptor, TripUpdate, Unknown, UnknownValue, VehicleDescriptor,
+    VehiclePosition,
+};
 use rt_outside::Steps;
 use std::alloc::{AllocError, Global};
 use std::marker::Brand;

@@ -1,5 +1,5 @@
 -- The fields of joined bytes are those of the parts.
-use Rattle.std.proofs.Common.{◌≡◌, ℕ, List, [], ◌∷◌, ◌++◌, length, map, Option, Some, None, Result, Ok, Err, refl, sym, ap, ◌∙◌}
+use Rattle.std.proofs.Common.{◌≡◌, ℕ, List, [], ◌∷◌, ◌++◌, length, map, Some, Result, Ok, Err, refl, sym, ap, ◌∙◌}
 use Rattle.std.specs.List.{flat_map, AllByRecursion, concat}
 use Prim.Native.String.{String}
 use Rattle.rt_wire.specs.declared.fault.WireFault.{WireFault}
