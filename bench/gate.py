@@ -6,7 +6,7 @@
 Runs `rt ci --anew`, or `rt ci --anew CRATE..`, and prints the processor minutes of each crate's proofs, of its tests and of
 its must-fail edits, then the twenty slowest edits, and the twenty functions before whose line the log waited longest (four
 functions are checked at a time, so this names a slow function and doesn't measure it). The last line has the minutes on the
-clock, those of all processors, and how rt ci ended.
+clock, those of all processors, and how rt ci ended. What rt ci prints goes to standard error.
 """
 
 import collections
@@ -107,6 +107,7 @@ def main():
     meter.start()
     waits, last, closing = [], collections.defaultdict(time.monotonic), ""
     for line in child.stdout:
+        print(line, end="", file=sys.stderr, flush=True)
         closing = line.strip() or closing
         told = re.match(r"checked (([a-z0-9_]+)::\S+), \d+ of \d+", line)
         if told:
