@@ -77,7 +77,7 @@ by_value number (Len p) = refl
 by_value number (Group p) = refl
 by_value number (Fixed32 n) = refl
 
-unknown_float : (f : WireField) → NoFloat (unknown_form f)
+pub unknown_float : (f : WireField) → has_float (unknown_form f) ≡ false
 unknown_float f = by_value f.number f.value
 
 slots_float : (s : Schema) (v : Value s) (ms : Members) → members_have_float ms ≡ false → members_have_float (with_slots s v ms) ≡ false
@@ -91,11 +91,13 @@ slots_float (schema.message n name presence m rest) v ms h =
 slots_float (schema.repeated n name m rest) v ms h =
     slots_float rest v.1 _ (member_float (codes name) _ ms (array_float (λ w. object (with_slots m w no_members)) v.0 (λ w. slots_float m w no_members refl)) h)
 
-pub form_float : (s : Schema) (v : Value s) → has_float (form s v) ≡ false
-form_float s v = slots_float s v no_members refl
-
 -- what was made for a message
 pub tree_float : (s : Schema) (v : Value s) (r : Result Tree AllocError) → IfOk r (λ tree. view tree ≡ form s v)
     → IfOk r (λ tree. has_float (view tree) ≡ false)
-tree_float s v (Ok tree) h = rw h (form_float s v)
+tree_float s v (Ok tree) h = rw h (slots_float s v no_members refl)
 tree_float s v (Err e) h = tt
+
+-- what was made for an unknown field
+pub field_float : (f : WireField) (r : Result Tree AllocError) → IfOk r (λ tree. view tree ≡ unknown_form f) → IfOk r (λ tree. has_float (view tree) ≡ false)
+field_float f (Ok tree) h = rw h (unknown_float f)
+field_float f (Err e) h = tt

@@ -7,4 +7,5 @@ pub mod Names
 pub mod Numbers
 pub mod Residuals
 pub mod RoundTrip
+pub mod Texts
 pub mod Walking

@@ -1,6 +1,7 @@
 pub mod Faults
 pub mod Form
 pub mod Holds
+pub mod Pieces
 pub mod Reads
 pub mod Unform
 pub mod Walk

@@ -5,7 +5,8 @@
 //! floats are whole numbers. Last, `unknown` has the fields of no slot: number, wire type and value, bytes in hexadecimal
 //! digits. So every field and every unknown byte of a snapshot is in its form.
 //!
-//! - `to_json` gives the form of a message. It holds no float, so its text is exact.
+//! - `to_json` gives the form of a message. It holds no float, so its text is exact. `to_text` gives that text, and makes it
+//!   entity by entity.
 //! - `from_json` gives the message that a tree says, which is well formed, or the first fault of the tree with its path.
 //!   A tree is walked in a fixed order: at an object its keys in byte order, then its fields in the order of the table of
 //!   messages, and last its unknown fields.
@@ -26,6 +27,7 @@
 //! - `unknown`: unknown fields, from JSON and to it
 //! - `descriptors`, `translation`, `alert`, `vehicle_position`, `trip_update`, `feed`: the kinds of message
 //! - `snapshot`: a whole snapshot as JSON, and from it
+//! - `text`: the text of a form
 //! - `laws`: that nothing is lost, and what a first fault is
 #![tactic(auto)]
 
@@ -38,6 +40,7 @@ mod message;
 mod paths;
 mod reading;
 mod snapshot;
+mod text;
 mod translation;
 mod trip_update;
 mod unknown;
@@ -47,3 +50,4 @@ mod writing;
 pub use json_fault::JsonFault;
 pub use laws::{fault_is_first, form_reads_back, no_fault_is_found};
 pub use snapshot::{from_json, to_json};
+pub use text::to_text;

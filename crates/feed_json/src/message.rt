@@ -1,9 +1,10 @@
 //! Any message, from JSON and to it: what is said of every kind stands here once.
-ghost use Rattle.std.specs.Prelude.{◌≡◌, map, OnOk, IfOk, IfSome};
+ghost use Rattle.std.specs.Prelude.{◌≡◌, map, false, OnOk, IfOk, IfSome};
 ghost use Rattle.std.specs.Option.{option_map};
 ghost use Rattle.std.specs.List.{AllByRecursion};
 ghost use Rattle.serde_json.specs.Find.{get};
 ghost use Rattle.serde_json.specs.View.{view, items_view, members_view};
+ghost use Rattle.serde_json.specs.Written.{has_float};
 ghost use Rattle.feed_json.specs.Form.{form, with_slots};
 ghost use Rattle.feed_json.specs.Faults.{item_key, under};
 ghost use Rattle.feed_json.specs.Holds.{Holds};
@@ -129,8 +130,15 @@ pub fn repeated<M: Form>(alloc: Global, value: &Value, key: &str) -> Result<Item
     }
 }
 
-/// The form of a message.
+/// The form of a message. It has no float, so its text is exact.
 pub fn message_tree<M: Form>(alloc: Global, message: &M) -> Result<Value, AllocError>
+    ensures no_float { IfOk result (λ tree. has_float (view tree) ≡ false) }
+    ensures tree { IfOk result (λ tree. view tree ≡ form M.schema (M.value message.now)) }
+{
+    message_object(alloc, message)
+}
+
+fn message_object<M: Form>(alloc: Global, message: &M) -> Result<Value, AllocError>
     ensures { IfOk result (λ tree. view tree ≡ form M.schema (M.value message.now)) }
 {
     let mut members = Map::new(alloc);

@@ -1,6 +1,6 @@
 //! Unknown fields, from JSON and to it: number, wire type, and a value that is a whole number or hexadecimal digits.
 //! (Protocol Buffers, Encoding, "Message Structure"; that they are kept in JSON, and how, is this profile's.)
-ghost use Rattle.std.specs.Prelude.{◌≡◌, ◌≤◌, map, codes, OnOk, IfOk, IsTrue};
+ghost use Rattle.std.specs.Prelude.{◌≡◌, ◌≤◌, map, codes, false, OnOk, IfOk, IsTrue};
 ghost use Rattle.std.specs.Option.{option_map};
 ghost use Rattle.std.specs.List.{AllByRecursion};
 ghost use Rattle.hex.specs.Hex.{encode_lower};
@@ -10,6 +10,7 @@ ghost use Rattle.feed_values.specs.WellFormed.{IsUnknown, NumbersFit};
 ghost use Rattle.serde_json.specs.Data.{string};
 ghost use Rattle.serde_json.specs.Find.{get};
 ghost use Rattle.serde_json.specs.View.{view, items_view, members_view};
+ghost use Rattle.serde_json.specs.Written.{has_float};
 ghost use Rattle.feed_values.specs.Views.{unknown_field, unknown_value};
 ghost use Rattle.feed_json.specs.Faults.{item_key, under};
 ghost use Rattle.feed_json.specs.Form.{unknown_form, wire_form, with_member, array_form};
@@ -265,8 +266,10 @@ fn wire_value(alloc: Global, value: &UnknownValue) -> Result<Value, AllocError>
 }
 
 /// The form of an unknown field.
-fn unknown_tree(alloc: Global, field: &Unknown) -> Result<Value, AllocError>
-    ensures { IfOk result (λ tree. view tree ≡ unknown_form (unknown_field field.now)) }
+#[tactic(auto, using(crate::proofs::Floats::unknown_float))]
+pub fn unknown_tree(alloc: Global, field: &Unknown) -> Result<Value, AllocError>
+    ensures no_float { IfOk result (λ tree. has_float (view tree) ≡ false) }
+    ensures tree { IfOk result (λ tree. view tree ≡ unknown_form (unknown_field field.now)) }
 {
     let number = field.number;
     let value = wire_value(alloc, &field.value)?;

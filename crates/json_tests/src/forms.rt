@@ -20,8 +20,9 @@ fn forms_are_those_of_another_implementation(rt: HostRuntime) -> Result<(), Fail
         ("vehicle", vectors::VEHICLE),
     ];
     for (name, (digits, form)) in rows {
-        let text = shown(rt.alloc(), digits)?;
-        assert_eq!(rt; text.as_str(), form, "the form of {name}");
+        let (tree, text) = shown(rt.alloc(), digits)?;
+        assert_eq!(rt; tree.as_str(), form, "the form of {name}");
+        assert_eq!(rt; text.as_str(), form, "the text of {name}");
         let again = written(rt.alloc(), form)?;
         assert_eq!(rt; again.as_str(), digits, "the bytes of {name}");
     }
@@ -88,7 +89,7 @@ fn any_text_goes_both_ways(rt: HostRuntime) -> Result<(), Fail> {
             "the bytes of {id}"
         );
         assert_eq!(rt;
-            shown(rt.alloc(), digits.as_str())?.as_str(),
+            shown(rt.alloc(), digits.as_str())?.1.as_str(),
             form.as_str(),
             "the form of {id}"
         );

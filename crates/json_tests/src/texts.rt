@@ -1,6 +1,6 @@
 //! From JSON text to a message and back, for the tests.
 use feed_codec::{decode, encode};
-use feed_json::{JsonFault, from_json, to_json};
+use feed_json::{JsonFault, from_json, to_json, to_text};
 use serde_json::Value;
 use std::alloc::Global;
 use std::test::Fail;
@@ -25,12 +25,12 @@ pub fn fault_in(alloc: Global, text: &str) -> Result<Option<JsonFault>, Fail> {
     }
 }
 
-/// The form of the snapshot whose bytes are these, in hexadecimal digits.
-pub fn shown(alloc: Global, digits: &str) -> Result<String, Fail> {
+/// The form of the snapshot whose bytes are these, in hexadecimal digits: the text of its tree, and the text made at once.
+pub fn shown(alloc: Global, digits: &str) -> Result<(String, String), Fail> {
     let bytes = hex::decode(alloc, digits)?;
     let message = decode(alloc, bytes.as_slice())?;
     let value = to_json(alloc, &message)?;
-    Ok(value.to_string(alloc)?)
+    Ok((value.to_string(alloc)?, to_text(alloc, &message)?))
 }
 
 /// The canonical bytes of what a text says, in hexadecimal digits.

@@ -1,5 +1,5 @@
 -- What carrying out a command ends with.
-use Rattle.std.proofs.Common.{◌≡◌, ℕ, List, ◌⊎◌, inl, inr, refl, sym, subst, Some, None, IfSome, ◌∙◌, ap}
+use Rattle.std.proofs.Common.{◌≡◌, ℕ, List, [], ◌∷◌, ◌⊎◌, inl, inr, refl, sym, subst, Some, None, IfSome, ◌∙◌, ap}
 use Rattle.std.specs.declared.option.Option.{Option}
 use Rattle.std.specs.List.{Contains}
 use Rattle.std.specs.Io.KnownBytes.{append_known}
@@ -13,11 +13,15 @@ use Rattle.timetable.specs.declared.fault.LoadFault.TheVariants as load
 use Rattle.timetable.specs.declared.file.File.{File}
 use Rattle.rt_command.specs.declared.fault.Fault.{Fault}
 use Rattle.rt_command.specs.declared.fault.Fault.TheVariants as fault
+use Rattle.rt_command.specs.declared.wanted.Wanted.{Wanted}
 use Rattle.rt_command.specs.declared.status.Status.{Status}
 use Rattle.rt_command.specs.declared.status.Status.TheVariants as answer
+use Rattle.rt_command.specs.declared.input_fault.InputFault.{InputFault}
+use Rattle.rt_command.specs.declared.input_fault.InputFault.TheVariants as input
 use Rattle.rt_command.specs.Inputs.{refusal_text}
+use Rattle.rt_command.specs.JsonInputs.{input_text}
 use Rattle.rt_command.specs.Report.{Report, files_report, check_report, refused_input}
-use Rattle.rt_command.specs.Faults.{TellsFault, IsErrorText, says_memory, says_write_fault, says_read_fault, says_refused, Says, SaysFault, SaysLoadFault, IsReported, IsInput, memory_text, write_fault_text, read_fault_text}
+use Rattle.rt_command.specs.Faults.{TellsFault, IsErrorText, says_memory, says_write_fault, says_read_fault, says_refused, Says, SaysFault, SaysLoadFault, SaysInputFault, IsReported, IsInput, memory_text, write_fault_text, read_fault_text}
 use Rattle.rt_command.specs.Outside.{Outside, outside}
 use Rattle.rt_command.specs.Carried.{CarriesOut}
 use Rattle.rt_command.proofs.Told.{tells, tells_more}
@@ -154,6 +158,29 @@ module _ (report : Contents → Report) (reads : List ℕ → Type 0) (files lat
     carried_load_fault (load.TooLarge file) is read said =
         refused file (load.TooLarge file) (says_refused _ _ (reading file)) (is (λ f e. cc e) (λ e. cc e)) said
 
+  -- the fault of a JSON file was told
+  module _ (result : Status) (file : List ℕ) (reading : reads file) where
+    pub carried_input_fault : (why : InputFault) → ((why ≡ input.ReadFault → ⊥) → (why ≡ input.Memory → ⊥) → RefusedBy (input_text file why)) →
+        (why ≡ input.ReadFault → Rose files.faults later.faults) → IfSome later.asked (λ asked. asked ≡ file) →
+        SaysInputFault file why eb ea result → CarriesOut report reads old new result
+    carried_input_fault input.ReadFault is read named said =
+        carried_read_fault report reads old new result (nothing (contents_told files.told)) file reading (read refl) named said
+    carried_input_fault input.Memory is read named said = carried_memory report reads old new result (nothing (contents_told files.told)) said
+    carried_input_fault input.MissingFile is read named said =
+        carried_refused result (input_text file input.MissingFile) (says_refused file _ reading) (is (λ e. cc e) (λ e. cc e)) said
+    carried_input_fault input.TooLarge is read named said =
+        carried_refused result (input_text file input.TooLarge) (says_refused file _ reading) (is (λ e. cc e) (λ e. cc e)) said
+    carried_input_fault input.NotJson is read named said =
+        carried_refused result (input_text file input.NotJson) (says_refused file _ reading) (is (λ e. cc e) (λ e. cc e)) said
+    carried_input_fault (input.WrongKind path) is read named said =
+        carried_refused result (input_text file (input.WrongKind path)) (says_refused file _ reading) (is (λ e. cc e) (λ e. cc e)) said
+    carried_input_fault (input.UnknownKey path) is read named said =
+        carried_refused result (input_text file (input.UnknownKey path)) (says_refused file _ reading) (is (λ e. cc e) (λ e. cc e)) said
+    carried_input_fault (input.OutOfRange path) is read named said =
+        carried_refused result (input_text file (input.OutOfRange path)) (says_refused file _ reading) (is (λ e. cc e) (λ e. cc e)) said
+    carried_input_fault (input.MissingKey path) is read named said =
+        carried_refused result (input_text file (input.MissingKey path)) (says_refused file _ reading) (is (λ e. cc e) (λ e. cc e)) said
+
 -- what was carried out behind the reading of other files, as part of the whole
 module _ (report whole : Contents → Report) (reads more : List ℕ → Type 0) (files : FilesState) (out err : SinkState) (after : Outside) (result : Status)
     (reading : (name : List ℕ) → reads name → more name) (first : FilesState)
@@ -194,9 +221,9 @@ module _ (report whole : Contents → Report) (reads more : List ℕ → Type 0)
   carried_within same is carried = within (contents_told first.told) same refl is carried
 
 -- the same of equal names
-pub carried_names : (moment : ℕ) (a b : List (List ℕ)) (before after : Outside) (result : Status) → a ≡ b →
-    CarriesOut (files_report moment a) (Contains a) before after result → CarriesOut (files_report moment b) (Contains b) before after result
-carried_names moment a b before after result same = subst (λ names. CarriesOut (files_report moment names) (Contains names) before after result) same
+pub carried_names : (wanted : Wanted) (a b : List (List ℕ)) (before after : Outside) (result : Status) → a ≡ b →
+    CarriesOut (files_report wanted a) (Contains a) before after result → CarriesOut (files_report wanted b) (Contains b) before after result
+carried_names wanted a b before after result same = subst (λ names. CarriesOut (files_report wanted names) (Contains names) before after result) same
 
 -- the same of an equal folder, an equal moment and equal names
 pub carried_at : (f g : Option (List ℕ)) (m n : ℕ) (a b : List (List ℕ)) (before after : Outside) (result : Status) → f ≡ g → m ≡ n → a ≡ b →
@@ -205,3 +232,8 @@ carried_at f g m n a b before after result folder moment names carried =
     subst (λ x. CarriesOut (check_report x n b) (IsInput x b) before after result) folder
     (subst (λ x. CarriesOut (check_report f n x) (IsInput f x) before after result) names
     (subst (λ x. CarriesOut (check_report f x a) (IsInput f a) before after result) moment carried))
+
+-- the same of an equal name
+pub carried_name : (ask : List ℕ → Contents → Report) (a b : List ℕ) (before after : Outside) (result : Status) → a ≡ b →
+    CarriesOut (ask a) (Contains (a ∷ [])) before after result → CarriesOut (ask b) (Contains (b ∷ [])) before after result
+carried_name ask a b before after result same = subst (λ name. CarriesOut (ask name) (Contains (name ∷ [])) before after result) same

@@ -8,3 +8,4 @@ pub mod Refusals
 pub mod Told
 pub mod Carried
 pub mod Numbers
+pub mod Encodings

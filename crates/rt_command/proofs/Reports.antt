@@ -1,5 +1,5 @@
 -- Which report a file's bytes have.
-use Rattle.std.proofs.Common.{◌≡◌, ℕ, ◌<◌, List, ◌++◌, length, nat_lt, true, refl, ap, sym, ◌∙◌, Some, None, arith, subst, IfSome, IsSomeAnd, Err}
+use Rattle.std.proofs.Common.{◌≡◌, ℕ, ◌<◌, List, ◌++◌, length, nat_lt, true, refl, ap, sym, ◌∙◌, Some, None, arith, subst, IfSome, IsSomeAnd, Result, Ok, Err}
 use Rattle.std.specs.declared.option.Option.{Option}
 use Rattle.std.specs.List.{flat_map}
 use Rattle.std.specs.FinMap.{get}
@@ -23,16 +23,14 @@ use Rattle.rt_command.specs.declared.finding.Finding.{Finding}
 use Rattle.rt_command.specs.declared.lines.Accepted.{Accepted}
 use Rattle.rt_command.specs.HeaderRules.{findings}
 use Rattle.rt_command.specs.Lines.{accepted_line, finding_line}
-use Rattle.rt_command.specs.Report.{snapshot_report, judged_report, accepted_report, refused_report, first_snapshot}
+use Rattle.rt_command.specs.declared.wanted.Wanted.{Wanted}
+use Rattle.rt_command.specs.declared.wanted.Wanted.TheVariants.{Findings}
+use Rattle.rt_command.specs.Report.{snapshot_report, wanted_report, snapshot_in, decoded, accepted_report, first_snapshot}
 
--- a message that the bytes mean gives their report, where nothing is wrong with them
-pub accepted_judged : (moment : ℕ) (bytes : List ℕ) (fault : Option Refusal) (message : FeedMessage) → fault ≡ None →
-    feed_message_value message ≡ meaning feed_message (fields bytes) →
-    accepted_report moment (feed_header_value message.header) (length message.entity) ≡ judged_report moment bytes fault
-accepted_judged moment bytes fault message none means =
-    ap (λ header. accepted_report moment header (length message.entity)) (ap (λ value. value.0) means)
-    ∙ ap (λ n. accepted_report moment (meaning feed_message (fields bytes)).0 n) (sym (length-map message.entity entity_value) ∙ ap (λ value. length value.1.0) means)
-    ∙ ap (judged_report moment bytes) (sym none)
+-- the report on an accepted message is the one that its value has
+pub findings_wanted : (moment : ℕ) (message : FeedMessage) →
+    accepted_report moment (feed_header_value message.header) (length message.entity) ≡ wanted_report (Findings moment) (Ok (feed_message_value message))
+findings_wanted moment message = ap (accepted_report moment (feed_header_value message.header)) (sym (length-map message.entity entity_value))
 
 -- what was written for an accepted snapshot
 pub accepted_text : (moment n entities : ℕ) (header : Value feed_header) (numbers : Accepted) (found : List Finding) (front whole : List ℕ) → n ≡ entities →
@@ -49,14 +47,19 @@ large_refusal : (bytes : List ℕ) → snapshot_limit < length bytes → refusal
 unfolding refusal
 large_refusal bytes l = rw (past (length bytes) l) refl
 
-large_report : (moment : ℕ) (held : Option (List ℕ)) → IsSomeAnd held (λ bytes. snapshot_limit < length bytes) →
-    snapshot_report moment held ≡ refused_report (refused snapshot_limit TooLarge)
-large_report moment None l = absurd l
-large_report moment (Some bytes) l = ap (judged_report moment bytes) (large_refusal bytes l)
+large : (held : Option (List ℕ)) → IsSomeAnd held (λ bytes. snapshot_limit < length bytes) → snapshot_in held ≡ Err (refused snapshot_limit TooLarge)
+large None l = absurd l
+large (Some bytes) l = ap (decoded bytes) (large_refusal bytes l)
 
--- a line that says so is the report of bytes past the limit
-pub large_judged : (told : Option Contents) (file : List ℕ) (moment : ℕ) (judged : Judged) →
-    IfSome told (λ held. TellsWhole held file snapshot_limit (Err end.TooLarge)) → IsJudged (refused_report (refused snapshot_limit TooLarge)) judged →
-    IfSome told (λ held. IsJudged (snapshot_report moment (get held file)) judged)
-large_judged None file moment judged l is = tt
-large_judged (Some held) file moment judged l is = subst (λ report. IsJudged report judged) (sym (large_report moment (get held file) l)) is
+-- bytes past the limit are refused
+pub large_snapshot : (told : Option Contents) (file : List ℕ) → IfSome told (λ held. TellsWhole held file snapshot_limit (Err end.TooLarge)) →
+    IfSome told (λ held. snapshot_in (get held file) ≡ Err (refused snapshot_limit TooLarge))
+large_snapshot None file l = tt
+large_snapshot (Some held) file l = large (get held file) l
+
+-- what was found in a file gives its report
+pub found_report : (told : Option Contents) (wanted : Wanted) (file : List ℕ) (found : Result (Value feed_message) Refusal) (judged : Judged) →
+    IfSome told (λ held. snapshot_in (get held file) ≡ found) → IsJudged (wanted_report wanted found) judged →
+    IfSome told (λ held. IsJudged (snapshot_report wanted (get held file)) judged)
+found_report None wanted file found judged is said = tt
+found_report (Some held) wanted file found judged is said = subst (λ f. IsJudged (wanted_report wanted f) judged) (sym is) said

@@ -1,38 +1,51 @@
 -- A request names one file.
-use Rattle.std.proofs.Common.{◌≡◌, ℕ, ◌≤◌, ◌-◌, get_or, ◌∙◌, List, [], ◌∷◌, Bool, true, false, length, take, drop, map, String, string_bytes, codes, ap, Some, None, if◌then◌else◌, arith}
+use Rattle.std.proofs.Common.{◌≡◌, ℕ, ◌≤◌, ◌-◌, get_or, ◌∙◌, List, [], ◌∷◌, Bool, true, false, length, take, drop, map, String, string_bytes, codes, ap, refl, subst, Some, None, if◌then◌else◌, arith}
 use Rattle.std.specs.declared.option.Option.{Option}
 use Rattle.std.specs.declared.alloc.Global.{Global}
 use Rattle.std.specs.Option.{option_and_then}
 use Rattle.std.proofs.lemmas.List.{take_all}
 use Rattle.std.specs.Str.{bytes_eq}
 use Rattle.rt_command.specs.declared.request.Request.{Request}
-use Rattle.rt_command.specs.declared.request.Request.TheVariants.{Check}
+use Rattle.rt_command.specs.declared.request.Request.TheVariants.{Check, Show, Encode}
 use Rattle.rt_command.specs.declared.options.Options.{Options}
-use Rattle.rt_command.specs.Words.{request, no_options, check_of, with_option, is_name, files_of}
+use Rattle.rt_command.specs.Words.{request, no_options, check_of, file_of, with_option, is_name, NamesOne}
 
-one_if : (b : Bool) (found : Option Request) (asked : Request) → (Some asked ≡ found → length (files_of asked) ≡ 1) →
-    Some asked ≡ (if b then found else None) → length (files_of asked) ≡ 1
-one_if true found asked one e = one e
-one_if false found asked one e = absurd (cc e)
+one_if : (b : Bool) (so other : Option Request) (asked : Request) → (Some asked ≡ so → NamesOne asked) → (Some asked ≡ other → NamesOne asked)
+    → Some asked ≡ (if b then so else other) → NamesOne asked
+one_if true so other asked one two e = one e
+one_if false so other asked one two e = two e
 
-some_same : (a b : Request) → Some a ≡ Some b → a ≡ b
+none : (asked : Request) → Some asked ≡ None → NamesOne asked
+none asked e = absurd (cc e)
+
+some_same : (a b : Request) → Some a ≡ Some b → b ≡ a
 some_same a b e = cc e
 
-one_then : (options : Option Options) (found : Options → Option Request) (asked : Request) → ((more : Options) → Some asked ≡ found more → length (files_of asked) ≡ 1) →
-    Some asked ≡ option_and_then found options → length (files_of asked) ≡ 1
+one_then : (options : Option Options) (found : Options → Option Request) (asked : Request) → ((more : Options) → Some asked ≡ found more → NamesOne asked) →
+    Some asked ≡ option_and_then found options → NamesOne asked
 one_then None found asked one e = absurd (cc e)
 one_then (Some more) found asked one e = one more e
 
-check_names_one : (options : Options) (words : List (List ℕ)) (asked : Request) → Some asked ≡ check_of options words → length (files_of asked) ≡ 1
+check_names_one : (options : Options) (words : List (List ℕ)) (asked : Request) → Some asked ≡ check_of options words → NamesOne asked
 check_names_one options [] asked e = absurd (cc e)
 check_names_one options (file ∷ []) asked e =
-    one_if (is_name file) (Some (Check options.folder options.moment (file ∷ []))) asked (λ same. ap (λ r. length (files_of r)) (some_same asked _ same)) e
+    one_if (is_name file) (Some (Check options.folder options.moment (file ∷ []))) None asked
+    (λ same. subst NamesOne (some_same asked (Check options.folder options.moment (file ∷ [])) same) refl) (none asked) e
 check_names_one options (name ∷ value ∷ words) asked e =
     one_then (with_option options name value) (λ more. check_of more words) asked (λ more. check_names_one more words asked) e
 
-pub request_names_one : (words : List (List ℕ)) (asked : Request) → Some asked ≡ request words → length (files_of asked) ≡ 1
+file_names_one : (ask : List ℕ → Request) → ((file : List ℕ) → NamesOne (ask file)) → (words : List (List ℕ)) (asked : Request) → Some asked ≡ file_of ask words → NamesOne asked
+file_names_one ask one [] asked e = absurd (cc e)
+file_names_one ask one (file ∷ []) asked e =
+    one_if (is_name file) (Some (ask file)) None asked (λ same. subst NamesOne (some_same asked (ask file) same) (one file)) (none asked) e
+file_names_one ask one (file ∷ more ∷ words) asked e = absurd (cc e)
+
+pub request_names_one : (words : List (List ℕ)) (asked : Request) → Some asked ≡ request words → NamesOne asked
 request_names_one [] asked e = absurd (cc e)
-request_names_one (command ∷ words) asked e = one_if (bytes_eq command (codes "check")) (check_of no_options words) asked (check_names_one no_options words asked) e
+request_names_one (command ∷ words) asked e =
+    one_if (bytes_eq command (codes "check")) (check_of no_options words) _ asked (check_names_one no_options words asked)
+    (one_if (bytes_eq command (codes "show")) (file_of Show words) _ asked (file_names_one Show (λ file. tt) words asked)
+    (one_if (bytes_eq command (codes "encode")) (file_of Encode words) None asked (file_names_one Encode (λ file. tt) words asked) (none asked))) e
 
 -- the one name of a list
 pub one_name : (names list : List (List ℕ)) (first name : List ℕ) → length names ≡ 1 → list ≡ names → first ≡ get_or list 0 first → name ≡ first → name ∷ [] ≡ names

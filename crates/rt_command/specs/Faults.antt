@@ -1,15 +1,18 @@
 -- What is written to the error stream where a run isn't carried out. (This profile.)
-use Rattle.std.specs.Prelude.{◌≡◌, ℕ, List, ◌++◌, ◌⊎◌, codes, Option, Some, None, IfSome, Contains, ⊤}
+use Rattle.std.specs.Prelude.{◌≡◌, ℕ, List, [], ◌∷◌, ◌++◌, ◌⊎◌, codes, Option, Some, None, IfSome, Contains, ⊤}
 use Rattle.std.specs.Io.KnownBytes.{append_known}
 use Rattle.rt_outside.specs.Causes.{Rose}
 use Rattle.rt_outside.specs.Sink.{AppendsPrefix, SinkState}
 use Rattle.rt_command.specs.declared.fault.Fault.{Fault}
 use Rattle.rt_command.specs.declared.fault.Fault.TheVariants as fault
+use Rattle.rt_command.specs.declared.input_fault.InputFault.{InputFault}
+use Rattle.rt_command.specs.declared.input_fault.InputFault.TheVariants as input
 use Rattle.rt_command.specs.declared.request.Request.{Request}
+use Rattle.rt_command.specs.declared.request.Request.TheVariants.{Check, Show, Encode}
 use Rattle.rt_command.specs.declared.status.Status.{Status}
 use Rattle.rt_command.specs.declared.status.Status.TheVariants as answer
 use Rattle.rt_command.specs.Inputs.{refused_text, refusal_text}
-use Rattle.rt_command.specs.Words.{folder_of, files_of}
+use Rattle.rt_command.specs.JsonInputs.{input_text}
 use Rattle.rt_command.specs.Report.{usage_text}
 use Rattle.timetable.specs.Folders.{path}
 use Rattle.timetable.specs.declared.fault.LoadFault.{LoadFault}
@@ -37,7 +40,9 @@ IsInput folder names name = Contains names name ⊎ IsTableFile folder name
 -- the file of this name is one that the request reads
 abbrev pub Reads : Option Request → List ℕ → Type 0
 Reads None name = ⊥
-Reads (Some asked) name = IsInput (folder_of asked) (files_of asked) name
+Reads (Some (Check folder now files)) name = IsInput folder files name
+Reads (Some (Show file)) name = Contains (file ∷ []) name
+Reads (Some (Encode file)) name = Contains (file ∷ []) name
 
 -- the texts that may stand on the error stream, where these files are read
 pub data IsErrorText (reads : List ℕ → Type 0) : List ℕ → Type 0 where
@@ -110,3 +115,11 @@ SaysLoadFault folder (load.ReadFault file) before after result = Says (read_faul
 SaysLoadFault folder load.Memory before after result = Says memory_text answer.Memory before after result
 SaysLoadFault folder fault before after result =
     Says (refusal_text folder fault) answer.Refused before after result ⊎ Says memory_text answer.Memory before after result
+
+-- a JSON file's fault was told: a read fault by the file's name, want of memory, or why it is refused, for which memory may
+-- be wanted
+abbrev pub SaysInputFault : List ℕ → InputFault → SinkState → SinkState → Status → Type 0
+SaysInputFault file input.ReadFault before after result = Says (read_fault_text file) answer.ReadFault before after result
+SaysInputFault file input.Memory before after result = Says memory_text answer.Memory before after result
+SaysInputFault file fault before after result =
+    Says (input_text file fault) answer.Refused before after result ⊎ Says memory_text answer.Memory before after result

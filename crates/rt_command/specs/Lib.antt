@@ -2,9 +2,11 @@ pub mod Report
 pub mod Exits
 pub mod Words
 pub mod Inputs
+pub mod JsonInputs
 pub mod Lines
 pub mod LineValues
 pub mod HeaderRules
+pub mod Found
 pub mod Judged
 pub mod Faults
 pub mod Outside

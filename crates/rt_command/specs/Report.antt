@@ -1,24 +1,32 @@
 -- What a run is to write and to answer: a function of the words, the moment and what the files hold.
 -- It doesn't see how the bytes arrive. (This profile.)
-use Rattle.std.specs.Prelude.{ℕ, Bool, List, [], ◌∷◌, ◌++◌, length, codes, if◌then◌else◌, Option, Some, None}
+use Rattle.std.specs.Prelude.{ℕ, Bool, List, [], ◌∷◌, ◌++◌, length, codes, if◌then◌else◌, Option, Some, None, Result, Ok, Err, unwrap_or}
 use Rattle.std.specs.List.{flat_map, list_any}
 use Rattle.std.specs.FinMap.{get}
 use Rattle.rt_outside.specs.Store.{Contents}
 use Rattle.feed_values.specs.Schema.{Value}
-use Rattle.feed_values.specs.Messages.{feed_header}
-use Rattle.feed_values.specs.Snapshot.{header_of, entities_of}
+use Rattle.serde_json.specs.Written.{compact_text}
+use Rattle.feed_values.specs.Messages.{feed_message, feed_header}
+use Rattle.feed_values.specs.Snapshot.{snapshot_value}
+use Rattle.feed_values.specs.Canonical.{canonical}
+use Rattle.feed_json.specs.Form.{form}
 use Rattle.feed_codec.specs.declared.refusal.Reason.TheVariants.{NoFile}
 use Rattle.feed_codec.specs.declared.refusal.Refusal.{Refusal}
 use Rattle.feed_codec.specs.Refusal.{refusal, refused}
 use Rattle.rt_command.specs.declared.finding.Finding.{Finding}
 use Rattle.rt_command.specs.declared.lines.Accepted.{Accepted}
+use Rattle.rt_command.specs.declared.input_fault.InputFault.{InputFault}
 use Rattle.rt_command.specs.declared.request.Request.{Request}
+use Rattle.rt_command.specs.declared.request.Request.TheVariants.{Check, Show, Encode}
 use Rattle.rt_command.specs.declared.status.Status.{Status}
 use Rattle.rt_command.specs.declared.status.Status.TheVariants as answer
+use Rattle.rt_command.specs.declared.wanted.Wanted.{Wanted}
+use Rattle.rt_command.specs.declared.wanted.Wanted.TheVariants.{Findings, Form}
 use Rattle.rt_command.specs.HeaderRules.{findings, is_error}
-use Rattle.rt_command.specs.Lines.{accepted_line, refused_line, finding_line}
+use Rattle.rt_command.specs.Lines.{line, accepted_line, refused_line, finding_line}
 use Rattle.rt_command.specs.Inputs.{timetable_refusal}
-use Rattle.rt_command.specs.Words.{request, folder_of, files_of, moment_of}
+use Rattle.rt_command.specs.JsonInputs.{input_message, input_text}
+use Rattle.rt_command.specs.Words.{request}
 
 -- the text for the output, the text for the errors, and the answer
 pub record Report : Type 0 where
@@ -59,20 +67,32 @@ accepted_report moment header entities = record {
   status = found (findings header);
 }
 
--- the report on a snapshot of these bytes, whose first fault is given, if it has one
-abbrev pub judged_report : ℕ → List ℕ → Option Refusal → Report
-judged_report moment bytes (Some refusal) = refused_report refusal
-judged_report moment bytes None = accepted_report moment (header_of bytes) (length (entities_of bytes))
+-- the form of an accepted snapshot is a line
+abbrev pub shown_report : Value feed_message → Report
+shown_report v = record { text = line (compact_text (form feed_message v)); errors = []; status = answer.Clean }
 
--- the report on a snapshot, whose file holds these bytes or isn't held
-abbrev pub snapshot_report : ℕ → Option (List ℕ) → Report
-snapshot_report moment None = refused_report (refused 0 NoFile)
-snapshot_report moment (Some bytes) = judged_report moment bytes (refusal bytes)
+-- the report on a snapshot, by what is wanted of it where it is accepted
+abbrev pub wanted_report : Wanted → Result (Value feed_message) Refusal → Report
+wanted_report wanted (Err refusal) = refused_report refusal
+wanted_report (Findings moment) (Ok v) = accepted_report moment v.0 (length v.1.0)
+wanted_report Form (Ok v) = shown_report v
 
--- the report on the file of `check`; a request of it names one, so the other cases are of no account
-abbrev pub files_report : ℕ → List (List ℕ) → Contents → Report
-files_report moment [] contents = record { text = []; errors = []; status = answer.Clean }
-files_report moment (file ∷ files) contents = snapshot_report moment (get contents file)
+-- the snapshot of a file, which holds these bytes or isn't held: its value, or its first fault
+abbrev pub decoded : List ℕ → Option Refusal → Result (Value feed_message) Refusal
+decoded bytes (Some refusal) = Err refusal
+decoded bytes None = Ok (snapshot_value bytes)
+
+abbrev pub snapshot_in : Option (List ℕ) → Result (Value feed_message) Refusal
+snapshot_in None = Err (refused 0 NoFile)
+snapshot_in (Some bytes) = decoded bytes (refusal bytes)
+
+abbrev pub snapshot_report : Wanted → Option (List ℕ) → Report
+snapshot_report wanted held = wanted_report wanted (snapshot_in held)
+
+-- the report on a file; a request of `check` names one, so the other cases are of no account
+abbrev pub files_report : Wanted → List (List ℕ) → Contents → Report
+files_report wanted [] contents = record { text = []; errors = []; status = answer.Clean }
+files_report wanted (file ∷ files) contents = snapshot_report wanted (get contents file)
 
 -- an input that is refused ends the run with its text, before any snapshot is read
 abbrev pub refused_input : List ℕ → Report
@@ -84,11 +104,21 @@ unless_refused (Some text) report = refused_input text
 
 -- the report of `check` on a timetable, where a folder is given; a timetable that is accepted changes nothing yet
 abbrev pub check_report : Option (List ℕ) → ℕ → List (List ℕ) → Contents → Report
-check_report folder moment files contents = unless_refused (timetable_refusal folder contents) (files_report moment files contents)
+check_report folder moment files contents = unless_refused (timetable_refusal folder contents) (files_report (Findings moment) files contents)
 
--- the report on a request, of which there is `check` alone
+-- the report of `encode`: the canonical bytes of the snapshot that its file says, or why the file is refused
+abbrev pub written_report : List ℕ → Result (Value feed_message) InputFault → Report
+written_report file (Ok v) = record { text = canonical feed_message v; errors = []; status = answer.Clean }
+written_report file (Err fault) = refused_input (input_text file fault)
+
+abbrev pub encode_report : List ℕ → Contents → Report
+encode_report file contents = written_report file (input_message (get contents file))
+
+-- the report on a request; the moment of `check` is that of its words, or else the clock's
 abbrev pub asked_report : Request → ℕ → Contents → Report
-asked_report asked now contents = check_report (folder_of asked) (moment_of asked now) (files_of asked) contents
+asked_report (Check folder moment files) now contents = check_report folder (unwrap_or moment now) files contents
+asked_report (Show file) now contents = snapshot_report Form (get contents file)
+asked_report (Encode file) now contents = encode_report file contents
 
 abbrev pub usage_text : List ℕ
 usage_text = codes "usage: rt_command check [--timetable DIR] [--now N] FILE...\n       rt_command follow [--timetable DIR] --list FILE\n       rt_command predict --timetable DIR (--zone-rule TEXT | --zone-file FILE) [--now N] FILE\n       rt_command show FILE\n       rt_command encode FILE\n       rt_command trial N\n"

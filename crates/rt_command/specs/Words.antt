@@ -1,12 +1,12 @@
 -- What the words of a command line ask for. (This profile.)
-use Rattle.std.specs.Prelude.{ℕ, ◌^◌, List, [], ◌∷◌, length, Bool, false, not, ◌&&◌, ◌==◌, nat_lt, nat_le, if◌then◌else◌, codes, Option, Some, None, unwrap_or, is_none, option_map, option_and_then}
+use Rattle.std.specs.Prelude.{◌≡◌, ⊤, ℕ, ◌^◌, List, [], ◌∷◌, length, Bool, false, not, ◌&&◌, ◌==◌, nat_lt, nat_le, if◌then◌else◌, codes, Option, Some, None, is_none, option_map, option_and_then}
 use Rattle.std.specs.Char.{is_ascii_digit}
 use Rattle.std.specs.List.{list_all}
 use Rattle.std.specs.Str.Parse.{digits_value}
 use Rattle.std.specs.Str.{bytes_eq}
 use Rattle.rt_command.specs.declared.options.Options.{Options}
 use Rattle.rt_command.specs.declared.request.Request.{Request}
-use Rattle.rt_command.specs.declared.request.Request.TheVariants.{Check}
+use Rattle.rt_command.specs.declared.request.Request.TheVariants.{Check, Show, Encode}
 
 -- a word that may name a file: it isn't empty and doesn't begin with a dash
 abbrev pub is_name : List ℕ → Bool
@@ -42,19 +42,22 @@ check_of options [] = None
 check_of options (file ∷ []) = if is_name file then Some (Check options.folder options.moment (file ∷ [])) else None
 check_of options (name ∷ value ∷ words) = option_and_then (λ more. check_of more words) (with_option options name value)
 
+-- what stands after a command that takes one file
+abbrev pub file_of : (List ℕ → Request) → List (List ℕ) → Option Request
+file_of ask [] = None
+file_of ask (file ∷ []) = if is_name file then Some (ask file) else None
+file_of ask (file ∷ more ∷ words) = None
+
 -- the request of these words, if they give one
 abbrev pub request : List (List ℕ) → Option Request
 request [] = None
-request (command ∷ words) = if bytes_eq command (codes "check") then check_of no_options words else None
+request (command ∷ words) =
+    if bytes_eq command (codes "check") then check_of no_options words
+    else (if bytes_eq command (codes "show") then file_of Show words
+    else (if bytes_eq command (codes "encode") then file_of Encode words else None))
 
--- the timetable's folder that the words of a request name
-abbrev pub folder_of : Request → Option (List ℕ)
-folder_of (Check folder now files) = folder
-
--- the files that the words of a request name
-abbrev pub files_of : Request → List (List ℕ)
-files_of (Check folder now files) = files
-
--- the moment of a request's snapshots: that of its words, or else the clock's
-abbrev pub moment_of : Request → ℕ → ℕ
-moment_of (Check folder moment files) clock = unwrap_or moment clock
+-- so far `check` takes one file
+abbrev pub NamesOne : Request → Type 0
+NamesOne (Check folder now files) = length files ≡ 1
+NamesOne (Show file) = ⊤
+NamesOne (Encode file) = ⊤

@@ -1,22 +1,17 @@
 //! The command `check`.
-ghost use Rattle.std.specs.Prelude.{◌≡◌, ◌∷◌, [], IfSome, IfOk, IsErrOf, Contains, length, option_copied};
-ghost use Rattle.std.specs.FinMap.{get};
-ghost use Rattle.std.specs.Io.KnownBytes.{append_known};
-ghost use Rattle.rt_outside.specs.Causes.{Rose};
-ghost use Rattle.rt_outside.specs.Sink.{AppendsPrefix};
-ghost use Rattle.rt_outside.specs.Store.{contents_told};
-ghost use Rattle.rt_command.specs.Report.{snapshot_report, files_report, check_report};
+ghost use Rattle.std.specs.Prelude.{◌≡◌, Contains, length, option_copied};
+ghost use Rattle.rt_command.specs.Report.{files_report, check_report};
 ghost use Rattle.rt_command.specs.Carried.{CarriesOut};
 ghost use Rattle.rt_command.specs.Outside.{outside};
-ghost use Rattle.rt_command.specs.Faults.{IsCarriedOut, IsInput};
+ghost use Rattle.rt_command.specs.Faults.{IsInput};
+ghost use Rattle.rt_command.specs.declared.wanted.Wanted.TheVariants as Wanted;
 
-use crate::fault::Fault;
-use crate::judge::judge_file;
 use crate::refusal::say_load_fault;
-use crate::say::say_fault;
+use crate::report_file::report_file;
 use crate::status::Status;
+use crate::wanted::Wanted;
 use feed_values::{Items, Text};
-use rt_outside::{Files, Sink, put_all};
+use rt_outside::{Files, Sink};
 use std::alloc::Global;
 use timetable::Timetable;
 
@@ -61,52 +56,10 @@ fn check_first<F: Files, S: Sink, E: Sink>(
     err: &mut E,
 ) -> Status
     requires { length names.now ≡ 1 }
-    ensures { CarriesOut (files_report moment names.now) (Contains names.now)
+    ensures { CarriesOut (files_report (Wanted.Findings moment) names.now) (Contains names.now)
         (outside (F.state files.old) (S.state out.old) (E.state err.old))
         (outside (F.state files.new) (S.state out.new) (E.state err.new)) result }
 {
-    check_file(alloc, moment, names.as_slice()[0].as_str(), files, out, err)
-}
-
-// Carries out `check` on this file.
-fn check_file<F: Files, S: Sink, E: Sink>(
-    alloc: Global,
-    moment: u64,
-    file: &str,
-    files: &mut F,
-    out: &mut S,
-    err: &mut E,
-) -> Status
-    ensures { CarriesOut (files_report moment (file.now ∷ [])) (Contains (file.now ∷ []))
-        (outside (F.state files.old) (S.state out.old) (E.state err.old))
-        (outside (F.state files.new) (S.state out.new) (E.state err.new)) result }
-{
-    match write_report(alloc, moment, file, files, out) {
-        Ok(status) => status,
-        Err(fault) => say_fault(err, fault, file),
-    }
-}
-
-// Writes the report on one file.
-fn write_report<F: Files, S: Sink>(
-    alloc: Global,
-    moment: u64,
-    file: &str,
-    files: &mut F,
-    out: &mut S,
-) -> Result<Status, Fault>
-    ensures text { IfSome (contents_told (F.state files.old).told) (λ held.
-        AppendsPrefix (S.state out.old).written (S.state out.new).written
-        (snapshot_report moment (get held file.now)).text) }
-    ensures whole { IfSome (contents_told (F.state files.old).told) (λ held. IfOk result (λ status.
-        let report = snapshot_report moment (get held file.now) in (status ≡ report.status)
-        × ((S.state out.new).written ≡ append_known (S.state out.old).written report.text))) }
-    ensures carried_out { IfOk result IsCarriedOut }
-    ensures asked { IfSome (F.state files.new).asked (λ last. last ≡ file.now) }
-    ensures read { IsErrOf result Fault.Read → Rose (F.state files.old).faults (F.state files.new).faults }
-    ensures write { IsErrOf result Fault.Write → Rose (S.state out.old).faults (S.state out.new).faults }
-{
-    let judged = judge_file(alloc, moment, files, file)?;
-    put_all(out, judged.text.as_bytes())?;
-    Ok(judged.status)
+    let wanted = Wanted::Findings { moment };
+    report_file(alloc, wanted, names.as_slice()[0].as_str(), files, out, err)
 }

@@ -3,19 +3,22 @@ ghost use Rattle.std.specs.Prelude.{◌≡◌, ◌≤◌, IfSome, IfOk, IsErrOf,
 ghost use Rattle.std.specs.FinMap.{get};
 ghost use Rattle.rt_outside.specs.Causes.{Rose};
 ghost use Rattle.rt_outside.specs.Store.{contents_told};
-ghost use Rattle.feed_values.specs.Views.{feed_header_value};
-ghost use Rattle.rt_command.specs.Report.{snapshot_report, judged_report, accepted_report, refused_report, first_snapshot, found, has_error};
-ghost use Rattle.feed_codec.specs.Refusal.{refusal};
+ghost use Rattle.feed_values.specs.Views.{feed_header_value, feed_message_value};
+ghost use Rattle.rt_command.specs.Found.{found_value};
+ghost use Rattle.rt_command.specs.Report.{snapshot_report, wanted_report, accepted_report, shown_report, refused_report, first_snapshot, found, has_error};
 ghost use Rattle.rt_command.specs.Judged.{IsJudged};
 ghost use Rattle.rt_command.specs.Faults.{IsCarriedOut};
 
 use crate::fault::Fault;
 use crate::finding::{Finding, findings};
 use crate::lines::{Accepted, accepted_line, push_findings, refused_line};
+use crate::snapshot_file::read_snapshot;
 use crate::status::Status;
-use feed_codec::{CodecFault, Reason, Refusal, SNAPSHOT_LIMIT, decode};
+use crate::wanted::Wanted;
+use feed_codec::Refusal;
+use feed_json::to_text;
 use feed_values::FeedMessage;
-use rt_outside::{Files, ReadEnd, read_whole};
+use rt_outside::Files;
 use std::alloc::{AllocError, Global};
 
 /// The text of a report for the output, and the answer.
@@ -25,45 +28,48 @@ pub struct Judged {
     pub status: Status,
 }
 
-/// Reads the snapshot in a file and judges it at this moment, as POSIX time in seconds.
+/// Reads the snapshot in a file and reports on it.
 pub fn judge_file<F: Files>(
     alloc: Global,
-    moment: u64,
+    wanted: Wanted,
     files: &mut F,
     file: &str,
 ) -> Result<Judged, Fault>
     ensures judged { IfSome (contents_told (F.state files.old).told)
-        (λ held. IfOk result (IsJudged (snapshot_report moment (get held file.now)))) }
+        (λ held. IfOk result (IsJudged (snapshot_report wanted (get held file.now)))) }
     ensures carried_out { IfOk result (λ judged. IsCarriedOut judged.status) }
     ensures asked { IfSome (F.state files.new).asked (λ last. last ≡ file.now) }
     ensures later { (F.state files.old).faults ≤ (F.state files.new).faults }
     ensures read { IsErrOf result Fault.Read → Rose (F.state files.old).faults (F.state files.new).faults }
     ensures not_write { IsErrOf result Fault.Write → ⊥ }
 {
-    match read_whole(alloc, files, file, SNAPSHOT_LIMIT) {
-        Ok(bytes) => Ok(judge(alloc, moment, &bytes)?),
-        Err(ReadEnd::Absent) => Ok(refused(alloc, 0, Reason::NoFile)?),
-        Err(ReadEnd::TooLarge) => Ok(refused(alloc, SNAPSHOT_LIMIT, Reason::TooLarge)?),
-        Err(ReadEnd::ReadFault) => Err(Fault::Read),
-        Err(ReadEnd::Memory) => Err(Fault::Memory),
-    }
+    let found = read_snapshot(alloc, files, file)?;
+    Ok(judge(alloc, wanted, found)?)
 }
 
-// Judges the bytes of a snapshot.
-fn judge(alloc: Global, moment: u64, bytes: &[u8]) -> Result<Judged, AllocError>
-    ensures { IfOk result (IsJudged (judged_report moment bytes.now (refusal bytes.now))) }
+// The report on a snapshot that was accepted or refused.
+fn judge(
+    alloc: Global,
+    wanted: Wanted,
+    found: Result<FeedMessage, Refusal>,
+) -> Result<Judged, AllocError>
+    ensures judged { IfOk result (IsJudged (wanted_report wanted (found_value found))) }
+    ensures carried_out { IfOk result (λ judged. IsCarriedOut judged.status) }
 {
-    match decode(alloc, bytes) {
-        Ok(message) => accepted(alloc, moment, &message),
-        Err(CodecFault::Refused(refusal)) => refused(alloc, refusal.at, refusal.reason),
-        Err(CodecFault::Memory) => Err(AllocError),
+    match found {
+        Ok(message) => match wanted {
+            Wanted::Findings { moment } => accepted(alloc, moment, &message),
+            Wanted::Form => shown(alloc, &message),
+        },
+        Err(refusal) => refused(alloc, refusal),
     }
 }
 
 // The report on an accepted snapshot: its line, and then its findings.
 fn accepted(alloc: Global, moment: u64, message: &FeedMessage) -> Result<Judged, AllocError>
-    ensures { IfOk result (IsJudged (accepted_report moment
+    ensures judged { IfOk result (IsJudged (accepted_report moment
         (feed_header_value message.now.header) (length message.now.entity))) }
+    ensures carried_out { IfOk result (λ judged. IsCarriedOut judged.status) }
 {
     let entities = message.entity.as_slice().len() as u64;
     let mut text = accepted_line(alloc, &first_snapshot(moment, entities))?;
@@ -109,12 +115,26 @@ fn first_snapshot(moment: u64, entities: u64) -> Accepted
     }
 }
 
+// The report on an accepted snapshot of which the form is wanted: its line.
+fn shown(alloc: Global, message: &FeedMessage) -> Result<Judged, AllocError>
+    ensures judged { IfOk result (IsJudged (shown_report (feed_message_value message.now))) }
+    ensures carried_out { IfOk result (λ judged. IsCarriedOut judged.status) }
+{
+    let mut text = to_text(alloc, message)?;
+    text.push_str("\n")?;
+    Ok(Judged {
+        text,
+        status: Status::Clean,
+    })
+}
+
 // The report on a refused snapshot: its line.
-fn refused(alloc: Global, at: usize, reason: Reason) -> Result<Judged, AllocError>
-    ensures { IfOk result (IsJudged (refused_report (record { at = at; reason = reason }))) }
+fn refused(alloc: Global, refusal: Refusal) -> Result<Judged, AllocError>
+    ensures judged { IfOk result (IsJudged (refused_report refusal)) }
+    ensures carried_out { IfOk result (λ judged. IsCarriedOut judged.status) }
 {
     Ok(Judged {
-        text: refused_line(alloc, 0, &Refusal { at, reason })?,
+        text: refused_line(alloc, 0, &refusal)?,
         status: Status::Found,
     })
 }

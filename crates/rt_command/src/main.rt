@@ -9,9 +9,12 @@
 //! - `status` and `fault` are how a run ends, and why it stops before its end.
 //! - `options` and `request` are what the words ask for, and `words` reads them.
 //! - `cell`, `header_rule` and `finding` judge a header by the rows of a table.
-//! - `lines` has the lines of a report, and `judge` the report on one snapshot.
+//! - `lines` has the lines of a report. `snapshot_file` reads a snapshot, and `judge` makes the report on it, by what is
+//!   `wanted` of it: its findings or its JSON form.
+//! - `json_input` reads the snapshot that a JSON file says, and `input_fault` is why it isn't had.
 //! - `say` writes to the error stream, and `refusal` why a timetable isn't loaded.
-//! - `check` carries out its command, and `run` the request of the words.
+//! - `report_file` writes the report on one file, which is all of `show`. `check` and `encode` carry out their commands, and
+//!   `run` the request of the words.
 //! - `main` joins `run` to the system: its files, its streams, its clock and its words.
 #![tactic(auto)]
 
@@ -19,21 +22,27 @@ ghost use Rattle.std.specs.Prelude.{◌≡◌};
 
 mod cell;
 mod check;
+mod encode;
 mod fault;
 mod finding;
 mod header_rule;
+mod input_fault;
+mod json_input;
 mod judge;
 mod lines;
 mod options;
 mod refusal;
+mod report_file;
 mod request;
 mod run;
 mod say;
+mod snapshot_file;
 mod status;
 #[cfg(test)]
 mod tests;
 #[cfg(test)]
 mod timetable_tests;
+mod wanted;
 mod words;
 
 use rt_outside::{RealFiles, RealSink, Steps};

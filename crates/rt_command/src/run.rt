@@ -1,19 +1,22 @@
 //! The whole of what the program does.
-ghost use Rattle.std.specs.Prelude.{◌≡◌, ◌⊎◌, IfSome, None, map, string_bytes, length};
+ghost use Rattle.std.specs.Prelude.{◌≡◌, ◌⊎◌, IfSome, Some, None, map, string_bytes};
 ghost use Rattle.std.specs.Io.KnownBytes.{append_known};
 ghost use Rattle.rt_outside.specs.Causes.{Rose};
 ghost use Rattle.rt_outside.specs.Sink.{AppendsPrefix};
 ghost use Rattle.rt_outside.specs.Store.{contents_told};
-ghost use Rattle.rt_command.specs.Words.{request, files_of};
+ghost use Rattle.rt_command.specs.Words.{request, NamesOne};
 ghost use Rattle.rt_command.specs.Report.{report, asked_report};
 ghost use Rattle.rt_command.specs.Carried.{CarriesOut};
 ghost use Rattle.rt_command.specs.Outside.{outside};
 ghost use Rattle.rt_command.specs.Faults.{Reads, IsReported, IsWithoutRequest, TellsFault};
 
 use crate::check::check;
+use crate::encode::encode;
+use crate::report_file::report_file;
 use crate::request::Request;
 use crate::say::{say, say_memory};
 use crate::status::Status;
+use crate::wanted::Wanted;
 use crate::words::words_of;
 use rt_outside::{Files, Sink, Steps};
 use std::alloc::Global;
@@ -91,18 +94,23 @@ fn carry_out<F: Files, S: Sink, E: Sink>(
     out: &mut S,
     err: &mut E,
 ) -> Status
-    requires { length (files_of request.now) ≡ 1 }
+    requires { NamesOne request.now }
     ensures { CarriesOut (asked_report request.now now) (Reads (Some request.now))
         (outside (F.state files.old) (S.state out.old) (E.state err.old))
         (outside (F.state files.new) (S.state out.new) (E.state err.new)) result }
 {
-    check(
-        alloc,
-        request.moment(now),
-        request.folder(),
-        request.files(),
-        files,
-        out,
-        err,
-    )
+    match request {
+        Request::Check {
+            folder,
+            now: moment,
+            files: names,
+        } => {
+            let moment = moment.unwrap_or(now);
+            check(alloc, moment, folder.as_ref(), names, files, out, err)
+        }
+        Request::Show { file } => {
+            report_file(alloc, Wanted::Form, file.as_str(), files, out, err)
+        }
+        Request::Encode { file } => encode(alloc, file.as_str(), files, out, err),
+    }
 }

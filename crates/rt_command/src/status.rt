@@ -17,7 +17,7 @@ pub enum Status {
     WriteFault,
     /// No memory was found.
     Memory,
-    /// The timetable was refused.
+    /// The timetable or the JSON file was refused.
     Refused,
 }
 

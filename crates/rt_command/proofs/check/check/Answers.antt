@@ -3,6 +3,7 @@ use Rattle.std.specs.Option.{option_copied}
 use Rattle.std.specs.List.{Contains}
 use Rattle.rt_command.proofs.Carried.{carried_at, carried_within, carried_load_fault}
 use Rattle.rt_command.proofs.Refusals.{no_timetable, accepted_timetable, refused_timetable, rose_before}
+use Rattle.rt_command.specs.declared.wanted.Wanted.TheVariants.{Findings}
 use Rattle.rt_command.specs.Faults.{IsInput}
 use Rattle.rt_command.specs.Report.{check_report, files_report}
 use Rattle.rt_command.proofs.check.check.Goals as goal
@@ -10,7 +11,7 @@ use Rattle.rt_command.proofs.check.check.Goals as goal
 pub returns-in-None : goal.returns-in-None
 returns-in-None g c =
     carried_at None (option_copied c.args.folder) c.args.moment _ c.args.names.now _ _ _ c.check_first.result (ap option_copied (sym c.in-None.is)) refl refl
-    (carried_within (files_report c.args.moment c.args.names.now) (check_report None c.args.moment c.args.names.now) (Contains c.args.names.now)
+    (carried_within (files_report (Findings c.args.moment) c.args.names.now) (check_report None c.args.moment c.args.names.now) (Contains c.args.names.now)
     (IsInput None c.args.names.now) _ _ _ _ c.check_first.result (λ name is. inl is) _ (λ rose. rose) refl
     (no_timetable _ c.args.moment c.args.names.now) c.check_first.ensures)
 
@@ -18,7 +19,7 @@ pub returns-in-Ok : goal.returns-in-Ok
 returns-in-Ok g c =
     carried_at (Some c.as_str-folder.result.now) (option_copied c.args.folder) c.args.moment _ c.args.names.now _ _ _ c.check_first-in-Ok.result
     (ap Some c.as_str-folder.ensures ∙ ap option_copied (sym c.in-Some.is)) refl refl
-    (carried_within (files_report c.args.moment c.args.names.now) (check_report (Some c.as_str-folder.result.now) c.args.moment c.args.names.now)
+    (carried_within (files_report (Findings c.args.moment) c.args.names.now) (check_report (Some c.as_str-folder.result.now) c.args.moment c.args.names.now)
     (Contains c.args.names.now) (IsInput (Some c.as_str-folder.result.now) c.args.names.now) _ _ _ _ c.check_first-in-Ok.result (λ name is. inl is) _
     (rose_before _ _ _ c.load.ensures.later) c.load.ensures.contents
     (accepted_timetable _ c.as_str-folder.result.now c.args.moment c.args.names.now _ c.in-Ok.ensures.ok) c.check_first-in-Ok.ensures)

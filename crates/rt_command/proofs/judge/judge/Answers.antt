@@ -1,9 +1,9 @@
 use Rattle.std.proofs.Common.{subst, IfOk}
 use Rattle.rt_command.specs.Judged.{IsJudged}
-use Rattle.rt_command.proofs.Reports.{accepted_judged}
+use Rattle.rt_command.proofs.Reports.{findings_wanted}
 use Rattle.rt_command.proofs.judge.judge.Goals as goal
 
-pub returns-in-Ok : goal.returns-in-Ok
-returns-in-Ok c =
-    subst (λ report. IfOk c.accepted.result (IsJudged report))
-    (accepted_judged c.args.moment c.args.bytes.now _ c.in-Ok.message c.in-Ok.ensures.value.0 c.in-Ok.ensures.value.1) c.accepted.ensures
+pub returns-in-Findings-clause-judged : goal.returns-in-Findings-clause-judged
+returns-in-Findings-clause-judged c =
+    rw (c.in-Findings.is, c.in-Ok.is)
+    (subst (λ report. IfOk c.accepted.result (IsJudged report)) (findings_wanted c.in-Findings.moment c.in-Ok.message) c.accepted.ensures.judged)

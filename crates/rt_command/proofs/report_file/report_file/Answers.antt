@@ -1,6 +1,6 @@
 use Rattle.std.proofs.Common.{refl, arith, rules}
 use Rattle.rt_command.proofs.Carried.{carried_fault}
-use Rattle.rt_command.proofs.check.check_file.Goals as goal
+use Rattle.rt_command.proofs.report_file.report_file.Goals as goal
 
 pub returns-in-Err : goal.returns-in-Err
 returns-in-Err g c =

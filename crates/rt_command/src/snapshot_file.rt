@@ -1,0 +1,56 @@
+//! The snapshot in a file.
+ghost use Rattle.std.specs.Prelude.{◌≡◌, ◌≤◌, IfSome, IfOk, IfErr, IsErrOf};
+ghost use Rattle.std.specs.FinMap.{get};
+ghost use Rattle.rt_outside.specs.Causes.{Rose};
+ghost use Rattle.rt_outside.specs.Store.{contents_told};
+ghost use Rattle.feed_codec.specs.Refusal.{refusal, refused};
+ghost use Rattle.rt_command.specs.Found.{found_value};
+ghost use Rattle.rt_command.specs.Report.{snapshot_in, decoded};
+
+use crate::fault::Fault;
+use feed_codec::{CodecFault, Reason, Refusal, SNAPSHOT_LIMIT, decode};
+use feed_values::FeedMessage;
+use rt_outside::{Files, ReadEnd, read_whole};
+use std::alloc::Global;
+
+/// The snapshot in the file of this name, or why it is refused. A file that isn't there is a refused snapshot.
+///
+/// The bytes of the file are given up once they are decoded.
+pub fn read_snapshot<F: Files>(
+    alloc: Global,
+    files: &mut F,
+    file: &str,
+) -> Result<Result<FeedMessage, Refusal>, Fault>
+    ensures found { IfSome (contents_told (F.state files.old).told)
+        (λ held. IfOk result (λ found. snapshot_in (get held file.now) ≡ found_value found)) }
+    ensures asked { IfSome (F.state files.new).asked (λ last. last ≡ file.now) }
+    ensures later { (F.state files.old).faults ≤ (F.state files.new).faults }
+    ensures read { IsErrOf result Fault.Read → Rose (F.state files.old).faults (F.state files.new).faults }
+    ensures not_write { IsErrOf result Fault.Write → ⊥ }
+{
+    match read_whole(alloc, files, file, SNAPSHOT_LIMIT) {
+        Ok(bytes) => decoded(alloc, &bytes),
+        Err(ReadEnd::Absent) => Ok(Err(refusal(0, Reason::NoFile))),
+        Err(ReadEnd::TooLarge) => Ok(Err(refusal(SNAPSHOT_LIMIT, Reason::TooLarge))),
+        Err(ReadEnd::ReadFault) => Err(Fault::Read),
+        Err(ReadEnd::Memory) => Err(Fault::Memory),
+    }
+}
+
+fn refusal(at: usize, reason: Reason) -> Refusal
+    ensures { result ≡ refused at reason }
+{
+    Refusal { at, reason }
+}
+
+// What the bytes of a snapshot mean, or why they are refused.
+fn decoded(alloc: Global, bytes: &[u8]) -> Result<Result<FeedMessage, Refusal>, Fault>
+    ensures found { IfOk result (λ found. decoded bytes.now (refusal bytes.now) ≡ found_value found) }
+    ensures memory { IfErr result (λ e. e ≡ Fault.Memory) }
+{
+    match decode(alloc, bytes) {
+        Ok(message) => Ok(Ok(message)),
+        Err(CodecFault::Refused(refusal)) => Ok(Err(refusal)),
+        Err(CodecFault::Memory) => Err(Fault::Memory),
+    }
+}
