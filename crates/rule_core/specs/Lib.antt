@@ -16,3 +16,5 @@ pub mod Findings
 pub mod Standing
 pub mod Changed
 pub mod Laws
+pub mod Groups
+pub mod GroupLaws
