@@ -13,6 +13,7 @@
 mod answers;
 mod ask;
 mod asking;
+mod both;
 mod cells;
 mod citing;
 mod fact;
@@ -22,15 +23,20 @@ mod judging;
 mod key;
 mod kind;
 mod laws;
+mod listed;
+mod local_rule;
 mod passing;
 mod place;
 mod row;
 mod rule;
+mod rules;
+mod schedule;
 mod table;
 
 pub use answers::Answers;
 pub use ask::{Ask, AskRef};
 pub use asking::ask_of;
+pub use both::Both;
 pub use cells::{cell_of, is_in_range};
 pub use citing::{cite, is_broken};
 pub use fact::{Fact, FactRef};
@@ -40,10 +46,13 @@ pub use judging::{judge_head, judge_rule};
 pub use key::EntityKey;
 pub use kind::Kind;
 pub use laws::evidence_is_found;
+pub use listed::Listed;
+pub use local_rule::{LocalAnswers, LocalRule};
 pub use passing::test_passes;
 pub use place::{Place, PlaceRef};
 pub use row::{Atom, Cite};
 pub use rule::RuleId;
+pub use rules::Rules;
 pub use table::{
     cites, cites_at, first, head_cites, head_slots, head_test, slots, slots_at, test, test_at,
 };
