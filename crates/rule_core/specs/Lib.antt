@@ -18,3 +18,6 @@ pub mod Changed
 pub mod Laws
 pub mod Groups
 pub mod GroupLaws
+pub mod PairAgree
+pub mod Bounds
+pub mod BothLaws

@@ -16,8 +16,8 @@ use timetable::Timetable;
 /// Two values that judge rules, of which none is one of both: the findings of the first, then those of the second.
 #[derive(Drop)]
 pub struct Both<A: Rules, B: Rules> {
-    first: A,
-    second: B,
+    pub(crate) first: A,
+    pub(crate) second: B,
     ghost apart: { NoneInBoth (A.rules first) (B.rules second) },
 }
 
