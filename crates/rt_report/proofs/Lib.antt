@@ -1,3 +1,2 @@
-pub mod PathTexts
 pub mod Ranges
 pub mod Floats

@@ -5,7 +5,6 @@ ghost use Rattle.serde_json.specs.View.{view};
 ghost use Rattle.feed_values.specs.Cells.{path_text};
 ghost use Rattle.rt_report.specs.Lines.{kind_name, ask_name, ask_keys, texts_data};
 
-use crate::path_text::path_string;
 use feed_values::{Path, Slot, Text};
 use rule_core::{Ask, Kind};
 use serde_json::Value;
@@ -57,7 +56,7 @@ pub(crate) fn ask_name(ask: &Ask) -> &'static str
 fn path_value(alloc: Global, path: Path) -> Result<Value, AllocError>
     ensures { IfOk result (λ value. view value ≡ string (path_text path.slot path.index)) }
 {
-    let text = path_string(alloc, path)?;
+    let text = path.text(alloc)?;
     Ok(Value::String(text))
 }
 

@@ -9,7 +9,6 @@ ghost use Rattle.rule_core.specs.declared.place.Place.TheVariants as place;
 
 use crate::asked::{ask_name, key_values};
 use crate::line::line_of;
-use crate::path_text::path_string;
 use feed_values::{CellValue, Path, Slot};
 use rule_core::{EntityKey, Fact, Finding, Place, RuleId};
 use serde_json::{Value, json};
@@ -95,7 +94,8 @@ fn head_value(
     ensures { IfOk result (λ value. view value ≡ finding_at kind finding.now since (place.Head feed slot)) }
 {
     let facts = facts_of(alloc, finding)?;
-    let path = path_string(alloc, Path { slot, index: 0 })?;
+    let path = Path { slot, index: 0 };
+    let path = path.text(alloc)?;
     json!(in alloc; {
         "facts": (facts),
         "feed": feed,
@@ -145,7 +145,7 @@ fn entity_value(
     ensures { IfOk result (λ value. view value ≡ finding_at kind finding.now since (place.Entity key.now path)) }
 {
     let facts = facts_of(alloc, finding)?;
-    let path = path_string(alloc, path)?;
+    let path = path.text(alloc)?;
     let id = key.id.as_str();
     let level = finding.rule().level();
     let line = line_name(kind);

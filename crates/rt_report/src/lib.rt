@@ -7,7 +7,6 @@
 mod asked;
 mod finding;
 mod line;
-mod path_text;
 mod snapshot;
 
 pub use finding::{LineKind, finding_line};
