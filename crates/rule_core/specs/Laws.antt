@@ -13,7 +13,11 @@ use Rattle.rule_core.specs.declared.fact.Fact.{Fact}
 use Rattle.rule_core.specs.declared.place.Place.{Place}
 use Rattle.rule_core.specs.declared.place.Place.TheVariants as place
 use Rattle.rule_core.specs.Broken.{Breaks}
+use Rattle.timetable.specs.Timetables.{Tables}
 use Rattle.rule_core.specs.Judged.{found_at, found_by}
+use Rattle.rule_core.specs.History.{Snapshot, IsHistory}
+use Rattle.rule_core.specs.Answered.{answer}
+use Rattle.rule_core.specs.Findings.{findings}
 
 -- each fact's value is the answer to its ask
 abbrev pub AllHold : (Ask → Option CellValue) → List Fact → Type 0
@@ -37,3 +41,9 @@ HasCells answer e = (p : Path) → answer (ask.Cell p) ≡ Some (entity_cell e p
 abbrev pub EvidenceIsAmong : Type 0
 EvidenceIsAmong = (answer : Ask → Option CellValue) (rule : RuleId) (key : EntityKey) (e : Value entity) (p : Path) (facts : List Fact) → HasCells answer e → Breaks rule (place.Entity key p) facts → AllHold answer facts
     → IsAmong (record { rule = rule; place = place.Entity key p; facts = facts }) (found_by rule answer key e)
+
+-- Evidence: for every timetable and history, facts that break a rule at a place and hold there show that this finding is among
+-- all findings.
+abbrev pub EvidenceShows : Type 0
+EvidenceShows = (t : Option Tables) (h : List Snapshot) (rule : RuleId) (at : Place) (facts : List Fact) → IsHistory h → Breaks rule at facts → AllHold (answer t h at) facts
+    → IsAmong (record { rule = rule; place = at; facts = facts }) (findings t h)

@@ -1,6 +1,6 @@
 //! Laws of the definitions. A function stands for its contract: it does nothing, and its `ensures` is proved for
 //! everything that it speaks of.
-ghost use Rattle.rule_core.specs.Laws.{EvidenceIsFound, EvidenceIsAmong};
+ghost use Rattle.rule_core.specs.Laws.{EvidenceIsFound, EvidenceIsAmong, EvidenceShows};
 
 /// Facts that break a rule at a place are found there by whatever answers with them.
 #[tactic(auto, using(crate::proofs::Holding::evidence_found))]
@@ -13,4 +13,11 @@ pub fn evidence_is_found()
 #[tactic(auto, using(crate::proofs::Anchors::evidence_among))]
 pub fn evidence_is_among()
     ensures { EvidenceIsAmong }
+{}
+
+/// For every timetable and every history, facts that break a rule at a place, and hold there, show that this finding is
+/// among all findings.
+#[tactic(auto, using(crate::proofs::Evidence::evidence_shows))]
+pub fn evidence_shows()
+    ensures { EvidenceShows }
 {}
