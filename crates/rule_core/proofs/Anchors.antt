@@ -120,7 +120,7 @@ cell_there S83 i e x h = selector_there (alert_of e) i (λ w. cell_in entity_sel
 cell_there S84 i e x h = selector_there (alert_of e) i (λ w. cell_in entity_selector w i (drop 2 (way S84))) (read i (cell_in entity e i (way S84)) h)
 cell_there S85 i e x h = selector_there (alert_of e) i (λ w. cell_in entity_selector w i (drop 2 (way S85))) (read i (cell_in entity e i (way S85)) h)
 
-one_place : (s : Slot) (e : Value entity) → has_item (way s) ≡ false → places_at e s ≡ 1
+pub one_place : (s : Slot) (e : Value entity) → has_item (way s) ≡ false → places_at e s ≡ 1
 one_place S1 e x = refl
 one_place S2 e x = refl
 one_place S3 e x = refl

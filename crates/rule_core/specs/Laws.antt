@@ -18,6 +18,8 @@ use Rattle.rule_core.specs.Judged.{found_at, found_by}
 use Rattle.rule_core.specs.History.{Snapshot, IsHistory}
 use Rattle.rule_core.specs.Answered.{answer}
 use Rattle.rule_core.specs.Findings.{findings}
+use Rattle.rule_core.specs.Found.{Found}
+use Rattle.rule_core.specs.Groups.{Each}
 
 -- each fact's value is the answer to its ask
 abbrev pub AllHold : (Ask → Option CellValue) → List Fact → Type 0
@@ -47,3 +49,12 @@ EvidenceIsAmong = (answer : Ask → Option CellValue) (rule : RuleId) (key : Ent
 abbrev pub EvidenceShows : Type 0
 EvidenceShows = (t : Option Tables) (h : List Snapshot) (rule : RuleId) (at : Place) (facts : List Fact) → IsHistory h → Breaks rule at facts → AllHold (answer t h at) facts
     → IsAmong (record { rule = rule; place = at; facts = facts }) (findings t h)
+
+-- a finding whose facts break its rule at its place and hold there after a history
+pub record IsEvidence (t : Option Tables) (h : List Snapshot) (f : Found) : Type 0 where
+  pub breaks : Breaks f.rule f.place f.facts
+  pub hold : AllHold (answer t h f.place) f.facts
+
+-- And the other way round: of all findings the facts break the rule at the place, and hold there.
+abbrev pub FindingsAreEvidence : Type 0
+FindingsAreEvidence = (t : Option Tables) (h : List Snapshot) → Each (IsEvidence t h) (findings t h)

@@ -1,6 +1,6 @@
 //! Laws of the definitions. A function stands for its contract: it does nothing, and its `ensures` is proved for
 //! everything that it speaks of.
-ghost use Rattle.rule_core.specs.Laws.{EvidenceIsFound, EvidenceIsAmong, EvidenceShows};
+ghost use Rattle.rule_core.specs.Laws.{EvidenceIsFound, EvidenceIsAmong, EvidenceShows, FindingsAreEvidence};
 
 /// Facts that break a rule at a place are found there by whatever answers with them.
 #[tactic(auto, using(crate::proofs::Holding::evidence_found))]
@@ -20,4 +20,10 @@ pub fn evidence_is_among()
 #[tactic(auto, using(crate::proofs::Evidence::evidence_shows))]
 pub fn evidence_shows()
     ensures { EvidenceShows }
+{}
+
+/// Of all findings after a history the facts break the rule at the place, and hold there.
+#[tactic(auto, using(crate::proofs::Shown::findings_are_evidence))]
+pub fn findings_are_evidence()
+    ensures { FindingsAreEvidence }
 {}

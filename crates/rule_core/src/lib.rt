@@ -51,7 +51,7 @@ pub use head_rule::HeadRule;
 pub use judging::{judge_head, judge_rule};
 pub use key::EntityKey;
 pub use kind::Kind;
-pub use laws::{evidence_is_among, evidence_is_found, evidence_shows};
+pub use laws::{evidence_is_among, evidence_is_found, evidence_shows, findings_are_evidence};
 pub use listed::Listed;
 pub use local_rule::{LocalAnswers, LocalRule};
 pub use pair_rule::PairRule;
