@@ -3,7 +3,9 @@ ghost use Rattle.std.specs.Prelude.{◌≡◌};
 
 use crate::common::text;
 use feed_codec::{check_entity, decode_entity};
-use feed_values::{Entity, Items, StopTimeEvent, StopTimeUpdate, TripDescriptor, TripUpdate, VehicleDescriptor};
+use feed_values::{
+    Entity, Items, StopTimeEvent, StopTimeUpdate, TripDescriptor, TripUpdate, VehicleDescriptor,
+};
 use message_rules::MessageGroup;
 use rt_outside::Steps;
 use rule_core::{EntityKey, FindingList, LocalRule, Place};
@@ -17,8 +19,16 @@ use timetable::Timetable;
 /// An entity whose trip update comes in two parts, the trip in the second.
 const SPLIT: [u8; 9] = [0x0A, 0x01, 0x61, 0x1A, 0x00, 0x1A, 0x02, 0x0A, 0x00];
 
-fn judged<L: Ledger>(alloc: Global, entity: &Entity, steps: &mut Steps<L>) -> Result<FindingList, AllocError> {
-    let key = EntityKey { feed: 0, id: entity.id.clone(alloc)?, occurrence: 1 };
+fn judged<L: Ledger>(
+    alloc: Global,
+    entity: &Entity,
+    steps: &mut Steps<L>,
+) -> Result<FindingList, AllocError> {
+    let key = EntityKey {
+        feed: 0,
+        id: entity.id.clone(alloc)?,
+        occurrence: 1,
+    };
     let table = Timetable::absent(alloc);
     let mut out = FindingList::new(alloc);
     MessageGroup::new().judge(alloc, &table, &key, entity, &mut out, steps)?;
@@ -44,7 +54,12 @@ fn split_findings<L: Ledger>(alloc: Global, blank: Blank) -> Result<Option<Findi
 fn stop(alloc: Global, sequence: u32) -> StopTimeUpdate {
     StopTimeUpdate {
         stop_sequence: Some(sequence),
-        arrival: Some(StopTimeEvent { delay: Some(0), time: None, uncertainty: None, unknown: Items::new(alloc) }),
+        arrival: Some(StopTimeEvent {
+            delay: Some(0),
+            time: None,
+            uncertainty: None,
+            unknown: Items::new(alloc),
+        }),
         departure: None,
         stop_id: None,
         schedule_relationship: Some(0),
@@ -121,7 +136,14 @@ fn expect_findings(rt: &impl Abort, list: &FindingList, want: &[(&str, u32)]) {
 
 #[test]
 fn parts_of_a_trip_update_are_judged_together(rt: HostRuntime) -> Result<(), Fail> {
-    let want = [("E041", 0), ("W001", 0), ("W002", 0), ("W006", 0), ("W009", 0), ("X002", 0)];
+    let want = [
+        ("E041", 0),
+        ("W001", 0),
+        ("W002", 0),
+        ("W006", 0),
+        ("W009", 0),
+        ("X002", 0),
+    ];
     match split_findings::<Brand>(rt.alloc(), Blank::new(1))? {
         Some(list) => expect_findings(&rt, &list, &want),
         None => panic!(rt; "the entity is refused"),
