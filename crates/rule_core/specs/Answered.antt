@@ -30,7 +30,7 @@ use Rattle.rule_core.specs.declared.key.EntityKey.{EntityKey}
 use Rattle.rule_core.specs.declared.place.Place.{Place}
 use Rattle.rule_core.specs.declared.place.Place.TheVariants as place
 use Rattle.rule_core.specs.Order.{same_key}
-use Rattle.rule_core.specs.History.{Snapshot, Keyed, first_of, now, before, entities, below, feed_limit}
+use Rattle.rule_core.specs.History.{Snapshot, Keyed, now, before, entities, below, feed_limit}
 use Rattle.rule_core.specs.Pairs as pairs
 use Rattle.rule_core.specs.Pairs.{PairRow}
 
@@ -72,9 +72,9 @@ frequencies_of t trip = unwrap_or (of_trip t trip (get t.frequencies trip)) []
 abbrev pub exact_number : Frequency → ℕ
 exact_number f = if f.exact then 1 else 0
 
--- whether a time is one of the starts of a row: from its start to its end, in steps of its headway
+-- whether a time is one of the starts of a row: from its start to its end, in steps of its headway, which is at least 1
 abbrev pub is_start : ℕ → Frequency → Bool
-is_start time f = nat_le f.start time && nat_le time f.end && ((time - f.start) % f.headway == 0)
+is_start time f = nat_le 1 f.headway && nat_le f.start time && nat_le time f.end && ((time - f.start) % f.headway == 0)
 
 abbrev pub is_on_grid : List Frequency → Option ℕ → Bool
 is_on_grid rows None = false
@@ -85,7 +85,7 @@ times_of t trip = trip_times t.stop_times trip
 
 -- the stop time of the lowest stop_sequence
 abbrev pub first_time : Tables → List ℕ → Option StopTime
-first_time t trip = of_trip t trip (option_map (λ e. e.1) (first_of (entries (times_of t trip))))
+first_time t trip = of_trip t trip (option_map (λ e. e.1) (slice_get (entries (times_of t trip)) 0))
 
 abbrev pub time_at : Tables → List ℕ → ℕ → Option StopTime
 time_at t trip sequence = of_trip t trip (stop_time_at t.stop_times.times trip sequence)
@@ -100,7 +100,7 @@ table_answer t (ask.AgencyKnown agency) = Some (yes (is_some (get t.agencies age
 table_answer t (ask.StopKind stop) = Some (natural_cell (option_map (λ only. only.item.kind) (get t.stops stop)))
 table_answer t (ask.TripRoute trip) = Some (text_cell (option_map (λ row. row.route) (trip_row t trip)))
 table_answer t (ask.TripDirection trip) = Some (natural_cell (option_and_then (λ row. row.direction) (trip_row t trip)))
-table_answer t (ask.TripExact trip) = Some (natural_cell (option_map exact_number (first_of (frequencies_of t trip))))
+table_answer t (ask.TripExact trip) = Some (natural_cell (option_map exact_number (slice_get (frequencies_of t trip) 0)))
 table_answer t (ask.OnGrid trip text) = Some (yes (is_on_grid (frequencies_of t trip) (time_of text)))
 table_answer t (ask.VisitsTwice trip) = Some (yes (trip_known t trip && visits_twice (times_of t trip)))
 table_answer t (ask.FirstArrival trip) = Some (natural_cell (option_and_then (λ time. time.arrival) (first_time t trip)))

@@ -16,3 +16,8 @@ pub mod Findings
 pub mod Standing
 pub mod Changed
 pub mod Laws
+pub mod Groups
+pub mod GroupLaws
+pub mod PairAgree
+pub mod Bounds
+pub mod BothLaws

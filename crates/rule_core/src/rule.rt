@@ -1,6 +1,6 @@
 //! The rules by name.
 ghost use Rattle.std.specs.Prelude.{◌≡◌};
-ghost use Rattle.rule_core.specs.Rules.{rule_name};
+ghost use Rattle.rule_core.specs.Rules.{rule_name, level};
 
 /// A rule, in the order of the rules' texts. `docs/rules.md` says what each is for.
 ///
@@ -120,6 +120,25 @@ impl RuleId {
             RuleId::W008 => "W008",
             RuleId::W009 => "W009",
             RuleId::X002 => "X002",
+        }
+    }
+
+    /// How much a finding of the rule weighs, the first letter of its text: `E` an error, `W` a warning, `X` an error of this
+    /// profile's own.
+    pub fn level(self) -> &'static str
+        ensures { result.now ≡ level self }
+    {
+        match self {
+            RuleId::W001
+            | RuleId::W002
+            | RuleId::W003
+            | RuleId::W005
+            | RuleId::W006
+            | RuleId::W007
+            | RuleId::W008
+            | RuleId::W009 => "W",
+            RuleId::X002 => "X",
+            _ => "E",
         }
     }
 }

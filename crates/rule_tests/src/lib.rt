@@ -9,6 +9,10 @@ mod common;
 #[cfg(test)]
 mod forms;
 #[cfg(test)]
+mod lines;
+#[cfg(test)]
+mod messages;
+#[cfg(test)]
 mod rows_e001_to_e009;
 #[cfg(test)]
 mod rows_e011_to_e018;

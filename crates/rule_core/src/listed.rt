@@ -1,0 +1,63 @@
+//! Rules of the table, one after the other.
+ghost use Rattle.std.specs.Prelude.{◌≡◌, true};
+ghost use Rattle.rule_core.specs.Groups.{are_apart};
+ghost use Rattle.rule_core.specs.GroupLaws.{all_own, all_once};
+ghost use Rattle.rule_core.specs.Judged.{found_all};
+ghost use Rattle.rule_core.specs.Answered.{local_answer};
+
+use crate::finding_list::FindingList;
+use crate::judging::judge_rule;
+use crate::key::EntityKey;
+use crate::local_rule::{LocalAnswers, LocalRule};
+use crate::rule::RuleId;
+use crate::rules::Rules;
+use feed_values::Entity;
+use rt_outside::Steps;
+use std::alloc::{AllocError, Global};
+use std::sync::ledger::Ledger;
+use timetable::Timetable;
+
+/// Some rules of the table, none of them twice.
+#[derive(Drop)]
+pub struct Listed {
+    rules: &'static [RuleId],
+    ghost apart: { are_apart rules.now ≡ true },
+}
+
+impl Listed {
+    pub fn new(rules: &'static [RuleId]) -> Listed
+        requires { are_apart rules.now ≡ true }
+        ensures { result.rules.now ≡ rules.now }
+    {
+        Listed { rules }
+    }
+}
+
+impl Rules for Listed {
+    ghost rules = { λ s. s.rules.now };
+}
+
+impl LocalRule for Listed {
+    ghost findings = { λ s t k e. found_all s.rules.now (local_answer t k e) k e };
+
+    ghost own = { λ s t k e. all_own s.rules.now (local_answer t k e) k e };
+
+    ghost once = { λ s t k e. all_once s.rules.now (local_answer t k e) k e s.apart };
+
+    fn judge<L: Ledger>(
+        &self,
+        alloc: Global,
+        table: &Timetable,
+        key: &EntityKey,
+        entity: &Entity,
+        out: &mut FindingList,
+        steps: &mut Steps<L>,
+    ) -> Result<(), AllocError> {
+        let answers = LocalAnswers { table, key, entity };
+        for rule in self.rules {
+            steps.tick();
+            judge_rule(alloc, &answers, *rule, key, entity, out)?;
+        }
+        Ok(())
+    }
+}
