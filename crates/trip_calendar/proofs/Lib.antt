@@ -1,3 +1,4 @@
 pub mod OriginLemmas
 pub mod ViewLemmas
 pub mod DayLemmas
+pub mod NearestLemmas

@@ -1,7 +1,7 @@
 -- The service day of a trip: the day that its times count from.
 -- (GTFS Schedule Reference, "Field Types", Date and Time; GTFS Realtime Reference, "TripDescriptor", start_date; the choice
 -- without a start_date is this profile's.)
-use Rattle.std.specs.Prelude.{◌≡◌, ℕ, ◌≤◌, ◌<◌, nat_lt, ℤ, pos, ◌+ℤ◌, ◌-ℤ◌, unsigned_abs, true, List, Option, Some, None, option_map, ◌⊎◌, if◌then◌else◌}
+use Rattle.std.specs.Prelude.{◌≡◌, ℕ, ◌≤◌, ◌<◌, nat_lt, ℤ, pos, ◌+ℤ◌, ◌-ℤ◌, unsigned_abs, true, List, Option, Some, None, option_map, ◌⊎◌, ⊤, if◌then◌else◌}
 use Rattle.std.specs.FinMap.{get}
 use Rattle.rt_day.specs.Date.{date_of, IsYearInRange}
 use Rattle.feed_values.specs.declared.trip_descriptor.TripDescriptor.{TripDescriptor}
@@ -28,6 +28,29 @@ nearer None second = second
 nearer (Some first) None = Some first
 nearer (Some first) (Some second) = if nat_lt second.distance first.distance then Some second else Some first
 
+-- ---- the nearest of three days in words: it is nearer than those before it and no farther than those after it
+abbrev pub IsNearer : Candidate → Option Candidate → Type 0
+IsNearer candidate None = ⊤
+IsNearer candidate (Some other) = candidate.distance < other.distance
+
+abbrev pub IsNoFarther : Candidate → Option Candidate → Type 0
+IsNoFarther candidate None = ⊤
+IsNoFarther candidate (Some other) = candidate.distance ≤ other.distance
+
+pub data IsNearestOf (before same after : Option Candidate) (candidate : Candidate) : Type 0 where
+  is_before : before ≡ Some candidate → IsNoFarther candidate same → IsNoFarther candidate after → IsNearestOf before same after candidate
+  is_same : same ≡ Some candidate → IsNearer candidate before → IsNoFarther candidate after → IsNearestOf before same after candidate
+  is_after : after ≡ Some candidate → IsNearer candidate before → IsNearer candidate same → IsNearestOf before same after candidate
+
+-- what is found is that, and nothing is found only where no day is a candidate
+abbrev pub FindsNearest : Type 0
+FindsNearest = (before same after : Option Candidate) (candidate : Candidate) → nearer (nearer before same) after ≡ Some candidate
+    → IsNearestOf before same after candidate
+
+abbrev pub FindsAny : Type 0
+FindsAny = (before same after : Option Candidate) → nearer (nearer before same) after ≡ None → (before ≡ None) × (same ≡ None) × (after ≡ None)
+
+-- ---- the service day
 -- the nearest of the day before the local date, that date and the day after it, the earliest where some are equally far
 pub record IsNearestAround (t : Tables) (zone : PlainZone) (service : Text) (time : ℤ) (moment : ℕ) (answer : Option ℤ) : Type 0 where
   pub date : ℤ

@@ -4,7 +4,8 @@
 //! also where the clocks change at night. From the bottom up: `zone` is a place's clocks, by a POSIX rule or a zone file;
 //! `origins` has the origin of a day and the local date of a moment; `services` tells whether a service runs on a day;
 //! `trips` has a trip's first given time and its shift; `candidate` and `service_days` find the service day of a trip
-//! descriptor. `laws` says that the text of a rule decides the offsets of its zone.
+//! descriptor. `laws` says what the nearest day is, and that the text of a
+//! rule decides the offsets of its zone.
 #![tactic(auto)]
 
 mod candidate;
@@ -16,7 +17,7 @@ mod trips;
 mod zone;
 mod zone_fault;
 
-pub use laws::{rule_choices_follow_the_text, rule_offsets_follow_the_text};
+pub use laws::{nearest_is_least, rule_choices_follow_the_text, rule_offsets_follow_the_text};
 pub use origins::{local_day, origin};
 pub use service_days::service_day;
 pub use services::runs_on;
