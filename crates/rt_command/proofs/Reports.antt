@@ -12,7 +12,6 @@ use Rattle.feed_values.specs.declared.feed_message.FeedMessage.{FeedMessage}
 use Rattle.feed_values.specs.Schema.{Value}
 use Rattle.feed_values.specs.Accepted.{snapshot_limit}
 use Rattle.feed_values.specs.Messages.{feed_message, feed_header}
-use Rattle.feed_values.specs.Meaning.{meaning, fields}
 use Rattle.feed_values.specs.Views.{feed_message_value, feed_header_value, entity_value}
 use Rattle.feed_codec.specs.declared.refusal.Refusal.{Refusal}
 use Rattle.feed_codec.specs.declared.refusal.Reason.TheVariants.{TooLarge}

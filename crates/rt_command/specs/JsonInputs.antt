@@ -1,5 +1,5 @@
 -- What a JSON file says as a snapshot, or the first thing that is wrong with it, and how that is told. (This profile.)
-use Rattle.std.specs.Prelude.{ℕ, List, [], ◌++◌, length, Bool, codes, nat_lt, if◌then◌else◌, Option, Some, None, Result, Ok, Err}
+use Rattle.std.specs.Prelude.{ℕ, List, [], ◌++◌, length, codes, nat_lt, if◌then◌else◌, Option, Some, None, Result, Ok, Err}
 use Rattle.std.specs.Str.{is_utf8}
 use Rattle.serde_json.specs.Data.{Data}
 use Rattle.serde_json.specs.Read.{read}

@@ -25,6 +25,8 @@ mod check;
 mod encode;
 mod fault;
 mod finding;
+#[cfg(test)]
+mod form_tests;
 mod header_rule;
 mod input_fault;
 mod json_input;

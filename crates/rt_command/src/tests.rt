@@ -95,7 +95,7 @@ fn run_into<F: Files>(
 }
 
 // Files in memory, of which one is named `f`.
-fn one_file(alloc: Global, bytes: &[u8]) -> Result<MemoryFiles, AllocError> {
+pub fn one_file(alloc: Global, bytes: &[u8]) -> Result<MemoryFiles, AllocError> {
     let mut files = MemoryFiles::new(alloc);
     files.add("f", bytes)?;
     Ok(files)
@@ -109,14 +109,14 @@ fn joined(alloc: Global, front: &[u8], rest: &[u8]) -> Result<Vec<u8>, AllocErro
 }
 
 // The header, and so many groups of field 15, each in the one before it.
-fn nested(alloc: Global, depth: usize) -> Result<Vec<u8>, AllocError> {
+pub fn nested(alloc: Global, depth: usize) -> Result<Vec<u8>, AllocError> {
     let starts = vec![in alloc; 0x7b; depth]?;
     let ends = vec![in alloc; 0x7c; depth]?;
     let groups = joined(alloc, &starts, &ends)?;
     joined(alloc, HEADER, &groups)
 }
 
-fn refused(alloc: Global, at: &str, reason: &str) -> Result<String, AllocError> {
+pub fn refused(alloc: Global, at: &str, reason: &str) -> Result<String, AllocError> {
     format!(in alloc; "{{\"at\":{at},\"line\":\"refused\",\"reason\":\"{reason}\",\"row\":0}}\n")
 }
 
@@ -137,7 +137,7 @@ fn checks(alloc: Global, bytes: &[u8], status: Status, out: &str) -> Result<bool
 }
 
 // The bytes of a row in hex digits, which an `H` puts behind the header.
-fn bytes_of(alloc: Global, text: &str) -> Result<Vec<u8>, Fail> {
+pub fn bytes_of(alloc: Global, text: &str) -> Result<Vec<u8>, Fail> {
     match text.strip_prefix("H") {
         Some(rest) => Ok(joined(alloc, HEADER, &hex::decode(alloc, rest)?)?),
         None => Ok(hex::decode(alloc, text)?),
@@ -342,7 +342,13 @@ check f --timetable town
 check --folder town f
 check -- f
 Check f
+show
 show a b
+show -f
+show --now 5 f
+encode
+encode f g
+Encode f
 --help
 ";
 
@@ -397,17 +403,25 @@ fn each_failing_call_of_the_files_is_told(rt: HostRuntime) -> Result<(), Fail> {
     let line = accepted(alloc, "0")?;
     for call in 0..3 {
         assert!(rt;
-            fails_at(alloc, call, Status::ReadFault, "", "read fault: f\n")?,
+            fails_at(
+                alloc,
+                "check",
+                call,
+                Status::ReadFault,
+                "",
+                "read fault: f\n"
+            )?,
             "{call}"
         );
     }
-    assert!(rt; fails_at(alloc, 3, Status::Clean, line.as_str(), "")?);
+    assert!(rt; fails_at(alloc, "check", 3, Status::Clean, line.as_str(), "")?);
     Ok(())
 }
 
-// Whether `check f` ends so where this call of the files fails.
-fn fails_at(
+// Whether this command on `f` ends so where this call of the files fails.
+pub fn fails_at(
     alloc: Global,
+    command: &str,
     call: u64,
     status: Status,
     out: &str,
@@ -415,7 +429,7 @@ fn fails_at(
 ) -> Result<bool, AllocError> {
     let mut files = one_file(alloc, HEADER)?;
     files.fail_at(call)?;
-    let ended = run_words(alloc, &["check", "f"], &mut files)?;
+    let ended = run_words(alloc, &[command, "f"], &mut files)?;
     Ok(
         ended.status == status
             && ended.out.written() == out.as_bytes()
