@@ -9,8 +9,10 @@ ghost use Rattle.rule_core.specs.Cited.{values_of};
 ghost use Rattle.rule_core.specs.Broken.{Breaks, IsPlace, IsFormed};
 
 use feed_values::{CellRef, Items, Slot};
-use rule_core::{Ask, Atom, Cite, Fact, Place, PlaceRef, RuleId};
-use rule_core::{ask_of, cell_of, cites_at, first, is_in_range, slots_at, test_at, test_passes};
+use rule_core::{
+    Ask, Atom, Cite, Fact, Place, PlaceRef, RuleId, ask_of, cell_of, cites_at, first, is_in_range,
+    slots_at, test_at, test_passes,
+};
 
 /// Whether facts break a rule at a place: the place is one of the rule's, the facts have the asks of its row there, in
 /// order, with the keys that the values before them give, each number lies from -2^63 to 2^64 - 1, and the values pass the
