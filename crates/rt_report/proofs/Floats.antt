@@ -1,5 +1,5 @@
 -- The values of findings have no float.
-use Rattle.std.proofs.Common.{◌≡◌, List, [], ◌∷◌, ℕ, ℤ, pos, negsuc, map, refl, false}
+use Rattle.std.proofs.Common.{◌≡◌, List, [], ◌∷◌, ℕ, pos, negsuc, map, refl, false}
 use Rattle.serde_json.specs.Data.{string}
 use Rattle.serde_json.specs.View.{items_of}
 use Rattle.serde_json.specs.Written.{has_float, items_have_float}

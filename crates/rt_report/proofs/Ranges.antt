@@ -1,5 +1,5 @@
 -- The numbers of the facts of a finding are within bounds.
-use Rattle.std.proofs.Common.{◌≡◌, ◌<◌, ℕ, Bool, true, false, ◌&&◌, List, [], ◌∷◌, ◌++◌, length, get_or, refl, cond, zero, suc, arith}
+use Rattle.std.proofs.Common.{◌≡◌, ◌<◌, ℕ, Bool, true, false, ◌&&◌, List, [], ◌∷◌, ◌++◌, length, get_or, refl, zero, suc, arith}
 use Rattle.std.specs.List.{list_all}
 use Rattle.feed_values.specs.declared.cell_value.CellValue.{CellValue}
 use Rattle.rule_core.specs.declared.fact.Fact.{Fact}

@@ -1,6 +1,6 @@
 -- Facts that hold show that the item of their place is there, so that their finding is among those of the entity.
-use Rattle.std.specs.Prelude.{◌≡◌, ℕ, ◌<◌, ◌≤◌, ◌==◌, ◌||◌, ◌&&◌, ◌⊎◌, not, Bool, true, false, cond, zero, suc, drop, List, [], ◌∷◌, ◌++◌, length, map, Option, Some, None, option_map, is_some, slice_get, slice_index_or, refl, if◌then◌else◌, int_le, pos, ℤ}
-use Rattle.std.specs.List.{list_any, list_all, Contains}
+use Rattle.std.specs.Prelude.{◌≡◌, ℕ, ◌<◌, ◌≤◌, ◌==◌, ◌||◌, ◌&&◌, ◌⊎◌, not, Bool, true, false, cond, zero, suc, drop, List, [], ◌∷◌, ◌++◌, length, Option, Some, None, option_map, is_some, slice_get, slice_index_or, refl, if◌then◌else◌, int_le, pos, ℤ}
+use Rattle.std.specs.List.{list_any, list_all}
 use Rattle.std.proofs.Common.{inl, inr, sym, ap, ◌∙◌, subst, arith, append_assoc}
 use Rattle.std.proofs.Math.Nat.{eq-or-lt_of_le}
 use borrow.Author.Tests.{eqb-true}
@@ -25,7 +25,7 @@ use Rattle.rule_core.specs.declared.place.Place.TheVariants as place
 use Rattle.rule_core.specs.declared.ask.Ask.{Ask}
 use Rattle.rule_core.specs.declared.ask.Ask.TheVariants as ask
 use Rattle.rule_core.specs.declared.fact.Fact.{Fact}
-use Rattle.rule_core.specs.Asked.{ask_at, path_at, slot_of, index_of, value_at, text_in, number_in, sequence_of, with_both, trip_id_of, start_time_of, start_date_of, relationship_of, delay_of, time_of, holder_of}
+use Rattle.rule_core.specs.Asked.{ask_at, path_at, value_at, text_in, number_in, sequence_of, with_both, trip_id_of, start_time_of, start_date_of, relationship_of, delay_of, time_of, holder_of}
 use Rattle.rule_core.specs.Passed.{holds, passes, is_given, same_cell, number_is, numbers_are, given_or}
 use Rattle.rule_core.specs.Cited.{values_of}
 use Rattle.rule_core.specs.Table.{slots_of, cites_of, test_of}

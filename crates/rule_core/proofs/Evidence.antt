@@ -1,7 +1,6 @@
 -- Facts that hold after a history are among its findings.
-use Rattle.std.specs.Prelude.{◌≡◌, ℕ, nat_le, ◌<◌, ◌≤◌, ◌==◌, ◌&&◌, ◌⊎◌, Bool, true, false, cond, zero, suc, List, [], ◌∷◌, ◌++◌, filter, reverse, length, Option, Some, None, option_map, option_and_then, is_some, slice_index_or, refl, bytes_eq}
-use Rattle.std.specs.List.{list_any, list_all, flat_map, find, Contains, AllByRecursion}
-use Rattle.std.specs.Option.{option_or}
+use Rattle.std.specs.Prelude.{◌≡◌, ℕ, nat_le, ◌<◌, ◌≤◌, ◌==◌, ◌&&◌, Bool, true, false, cond, zero, suc, List, [], ◌∷◌, filter, reverse, length, Option, Some, None, option_map, slice_index_or, refl, bytes_eq}
+use Rattle.std.specs.List.{flat_map, find}
 use Rattle.std.proofs.Common.{inl, inr, sym, ap, ◌∙◌, subst, arith}
 use Rattle.std.proofs.Math.Nat.{eq-or-lt_of_le}
 use Rattle.std.proofs.lemmas.Slice.Eq.{bytes_eq-Decides}
@@ -27,8 +26,8 @@ use Rattle.rule_core.specs.Table.{all_rules, cites_of, head_cites_of, head_slots
 use Rattle.rule_core.specs.Broken.{Breaks, IsFormed}
 use Rattle.rule_core.specs.Found.{Found}
 use Rattle.rule_core.specs.Judged.{found_at, found_by, found_all, found_on, head_found_by, head_found_all}
-use Rattle.rule_core.specs.History.{Snapshot, Keyed, IsTaken, IsHistory, now, before, recent, first_of, entities, below, feed_limit, feed_limit-is}
-use Rattle.rule_core.specs.Answered.{answer, answer_under, feed_answer, payload_under, entity_answer}
+use Rattle.rule_core.specs.History.{Snapshot, Keyed, IsHistory, now, first_of, entities, below, feed_limit, feed_limit-is}
+use Rattle.rule_core.specs.Answered.{answer, answer_under, feed_answer, payload_under}
 use Rattle.rule_core.specs.Findings.{findings, feed_findings, entity_findings}
 use Rattle.rule_core.specs.Laws.{AllHold, IsAmong, HasCells, EvidenceShows}
 use Rattle.rule_core.proofs.Holding.{evidence_found}

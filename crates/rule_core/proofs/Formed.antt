@@ -1,5 +1,5 @@
 -- What is cited has the asks of its entries, and values alone decide the same.
-use Rattle.std.proofs.Common.{◌≡◌, Bool, true, false, suc, length, cond, nat_le, List, [], ◌∷◌, ◌++◌, Option, Some, None, refl, sym, ◌∙◌, ap, append_assoc, subst, rules}
+use Rattle.std.proofs.Common.{◌≡◌, Bool, true, false, cond, nat_le, List, [], ◌∷◌, ◌++◌, Option, Some, None, refl, sym, ◌∙◌, ap, append_assoc, subst, rules}
 use Rattle.feed_values.specs.declared.cell_value.CellValue.{CellValue}
 use Rattle.rule_core.specs.declared.ask.Ask.{Ask}
 use Rattle.rule_core.specs.declared.fact.Fact.{Fact}

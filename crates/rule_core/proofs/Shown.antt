@@ -1,10 +1,9 @@
 -- All findings are evidence.
-use Rattle.std.specs.Prelude.{◌≡◌, ℕ, ◌<◌, ◌≤◌, nat_le, Bool, true, false, cond, zero, suc, List, [], ◌∷◌, ◌++◌, length, Option, Some, None, slice_index_or, refl}
+use Rattle.std.specs.Prelude.{◌≡◌, ℕ, ◌<◌, ◌≤◌, nat_le, Bool, true, false, cond, zero, suc, List, [], ◌∷◌, ◌++◌, length, Option, Some, None, refl}
 use Rattle.std.specs.List.{Contains, flat_map}
 use Rattle.std.proofs.Common.{sym, ap, ◌∙◌, subst, arith}
 use borrow.Author.Tests.{leb-true}
 use Rattle.feed_values.specs.declared.slot.Slot.{Slot}
-use Rattle.feed_values.specs.declared.path.Path.{Path}
 use Rattle.feed_values.specs.declared.cell_value.CellValue.{CellValue}
 use Rattle.feed_values.specs.Schema.{Value}
 use Rattle.feed_values.specs.Messages.{entity}
@@ -20,7 +19,7 @@ use Rattle.rule_core.specs.declared.ask.Ask.{Ask}
 use Rattle.rule_core.specs.declared.fact.Fact.{Fact}
 use Rattle.rule_core.specs.Asked.{ask_at, in_range, slot_of, index_of}
 use Rattle.rule_core.specs.Passed.{passes}
-use Rattle.rule_core.specs.Cited.{and_then, answered, fact_at, cited, values_of}
+use Rattle.rule_core.specs.Cited.{answered, fact_at, cited, values_of}
 use Rattle.rule_core.specs.Table.{all_rules, slots_of, head_slots_of, first_of}
 use Rattle.rule_core.specs.Rows.{cites_at, test_at, slots_at}
 use Rattle.rule_core.specs.Broken.{IsPlace, Breaks}
@@ -28,7 +27,7 @@ use Rattle.rule_core.specs.Found.{Found}
 use Rattle.rule_core.specs.Judged.{places_at, found_of, found_at, found_below, found_in, found_by, found_all, found_on, head_found_by, head_found_all}
 use Rattle.rule_core.specs.History.{Snapshot, Keyed, now, entities, below, feed_limit}
 use Rattle.rule_core.specs.Answered.{answer, answer_under, feed_answer}
-use Rattle.rule_core.specs.Findings.{findings, feed_findings, entity_findings}
+use Rattle.rule_core.specs.Findings.{feed_findings, entity_findings}
 use Rattle.rule_core.specs.Groups.{Each}
 use Rattle.rule_core.specs.GroupLaws.{each_append}
 use Rattle.rule_core.specs.Laws.{AllHold, IsEvidence, FindingsAreEvidence}

@@ -1,14 +1,14 @@
 -- What asks are answered: by an entity, by headers, by a timetable and by pairing rows, and after a history by all of them.
 -- (GTFS Schedule Reference, "agency.txt", "stops.txt", "routes.txt", "trips.txt", "stop_times.txt", "frequencies.txt"; GTFS
 -- Realtime Reference 2.0, "FeedHeader"; which asks there are is this profile's.)
-use Rattle.std.specs.Prelude.{ℕ, ◌-◌, ◌%◌, ◌==◌, ℤ, pos, Bool, false, not, ◌&&◌, nat_le, List, [], ◌∷◌, ◌++◌, Option, Some, None, option_map, option_and_then, unwrap_or, is_some, slice_get, bytes_eq, if◌then◌else◌}
+use Rattle.std.specs.Prelude.{ℕ, ◌-◌, ◌%◌, ◌==◌, ℤ, pos, Bool, false, not, ◌&&◌, nat_le, List, [], Option, Some, None, option_map, option_and_then, unwrap_or, is_some, slice_get, bytes_eq, if◌then◌else◌}
 use Rattle.std.specs.Option.{option_or}
 use Rattle.std.specs.List.{list_any, flat_map, find}
 use Rattle.std.specs.Cmp.Lexicographic.{pointwise}
 use Rattle.std.specs.FinMap.{get, entries}
 use Rattle.feed_values.specs.Schema.{Value}
 use Rattle.feed_values.specs.Messages.{feed_header, entity}
-use Rattle.feed_values.specs.Snapshot.{header_of, timestamp_of, entity_payloads, entity_of}
+use Rattle.feed_values.specs.Snapshot.{header_of, entity_payloads, entity_of}
 use Rattle.feed_values.specs.Cells.{text_cell, number_cell, entity_cell, header_cell}
 use Rattle.feed_values.specs.Views.{natural, truth_number}
 use Rattle.feed_values.specs.declared.slot.Slot.{Slot}

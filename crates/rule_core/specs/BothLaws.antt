@@ -1,5 +1,5 @@
 -- Laws of two groups of pairing or bound rules, one after the other.
-use Rattle.std.specs.Prelude.{◌≡◌, ℕ, ◌||◌, ◌==◌, ◌↔◌, ◌⊎◌, ℤ, Bool, true, false, List, [], ◌∷◌, ◌++◌, Option, cond, refl}
+use Rattle.std.specs.Prelude.{◌≡◌, ℕ, ◌||◌, ◌==◌, ◌↔◌, ◌⊎◌, ℤ, true, false, List, [], ◌∷◌, ◌++◌, Option, cond, refl}
 use Rattle.std.specs.List.{list_any}
 use Rattle.std.proofs.Common.{inl, inr, sym, ap, ◌∙◌}
 use Rattle.feed_values.specs.declared.cell_value.CellValue.{CellValue}
@@ -8,7 +8,7 @@ use Rattle.rule_core.specs.declared.rule.RuleId.{RuleId}
 use Rattle.rule_core.specs.declared.place.Place.{Place}
 use Rattle.rule_core.specs.Found.{Found}
 use Rattle.rule_core.specs.Rules.{rule_number}
-use Rattle.rule_core.specs.Groups.{IsOf, AreOf, NoneInBoth, has_rule, has_number}
+use Rattle.rule_core.specs.Groups.{AreOf, NoneInBoth, has_rule, has_number}
 use Rattle.rule_core.specs.GroupLaws.{any_both}
 use Rattle.rule_core.specs.Bounds.{bound_at, IsAbove, StandsAt}
 

@@ -1,9 +1,9 @@
 -- What a timestamp of an entity may not pass.
-use Rattle.std.specs.Prelude.{◌≡◌, ℕ, ◌+◌, ◌<◌, ◌^◌, ◌⊎◌, ◌==◌, ◌||◌, ℤ, pos, ◌<ℤ◌, Bool, true, List, [], ◌∷◌, Option, Some, None, option_map}
+use Rattle.std.specs.Prelude.{◌≡◌, ℕ, ◌+◌, ◌<◌, ◌^◌, ◌⊎◌, ◌==◌, ◌||◌, ℤ, pos, ◌<ℤ◌, Bool, true, List, [], ◌∷◌, Option, Some}
 use Rattle.feed_values.specs.declared.slot.Slot.{Slot}
 use Rattle.feed_values.specs.declared.slot.Slot.TheVariants.{S29, S59}
 use Rattle.feed_values.specs.declared.cell_value.CellValue.{CellValue}
-use Rattle.feed_values.specs.declared.cell_value.CellValue.TheVariants.{Missing, Number, Text}
+use Rattle.feed_values.specs.declared.cell_value.CellValue.TheVariants.{Number}
 use Rattle.feed_values.specs.Schema.{Value}
 use Rattle.feed_values.specs.Messages.{entity}
 use Rattle.feed_values.specs.Cells.{entity_cell, number_cell}

@@ -1,11 +1,9 @@
 -- Histories: which snapshots a feed's findings speak of, and its entities by name.
 -- (GTFS Realtime Reference 2.0, "FeedMessage" and "FeedEntity"; keys and the order of entities are this profile's.)
-use Rattle.std.specs.Prelude.{◌≡◌, ℕ, zero, suc, ◌+◌, ◌<◌, ◌^◌, ◌==◌, Bool, false, not, List, [], ◌∷◌, ◌++◌, filter, reverse, Option, Some, None, bytes_eq, if◌then◌else◌, refl}
+use Rattle.std.specs.Prelude.{◌≡◌, ℕ, zero, suc, ◌+◌, ◌<◌, ◌^◌, ◌==◌, List, [], ◌∷◌, ◌++◌, filter, reverse, Option, Some, None, bytes_eq, if◌then◌else◌, refl}
 use Rattle.std.specs.List.{AllByRecursion}
 use Rattle.std.specs.BTreeMap.{insert_entry}
-use Rattle.feed_values.specs.Schema.{Value}
-use Rattle.feed_values.specs.Messages.{feed_header, entity}
-use Rattle.feed_values.specs.Snapshot.{header_of, entity_payloads, entity_of}
+use Rattle.feed_values.specs.Snapshot.{entity_payloads, entity_of}
 use Rattle.feed_values.specs.Accepted.{IsAccepted}
 use Rattle.rule_core.specs.declared.key.EntityKey.{EntityKey}
 use Rattle.rule_core.specs.Order.{key_cmp}

@@ -1,6 +1,6 @@
 -- The tests of the rules, on the values of cited facts. (This profile; times and dates are those of the GTFS Schedule
 -- Reference, "Field Types".)
-use Rattle.std.specs.Prelude.{ℕ, ◌==◌, ℤ, pos, int_le, ◌+ℤ◌, Bool, true, false, not, ◌&&◌, ◌||◌, List, Option, Some, None, bytes_eq, is_some, is_none, nat_le, codes, if◌then◌else◌}
+use Rattle.std.specs.Prelude.{ℕ, ◌==◌, ℤ, pos, int_le, ◌+ℤ◌, Bool, true, false, not, ◌&&◌, ◌||◌, List, Option, Some, None, bytes_eq, is_some, nat_le, codes, if◌then◌else◌}
 use Rattle.std.specs.Ordering.{int_eq}
 use Rattle.std.specs.List.{list_all, before_first, after_first}
 use Rattle.rt_day.specs.Digits.{number_of}

@@ -1,8 +1,6 @@
 -- Since when rules stand at places, and what one more snapshot opens and closes.
-use Rattle.std.specs.Prelude.{◌≡◌, ℕ, ◌<◌, ◌≤◌, ◌==◌, Bool, true, false, not, ◌&&◌, ◌||◌, List, [], ◌∷◌, length, filter, map, take, Option, bytes_eq}
+use Rattle.std.specs.Prelude.{◌≡◌, ℕ, ◌<◌, ◌≤◌, ◌==◌, Bool, true, false, not, ◌&&◌, List, [], ◌∷◌, filter, map, take, Option, bytes_eq}
 use Rattle.std.specs.List.{list_any}
-use Rattle.std.specs.Ordering.{int_eq}
-use Rattle.feed_values.specs.declared.cell_value.CellValue.{CellValue}
 use Rattle.timetable.specs.Timetables.{Tables}
 use Rattle.rule_core.specs.declared.rule.RuleId.{RuleId}
 use Rattle.rule_core.specs.declared.place.Place.{Place}
