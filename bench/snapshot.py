@@ -1,8 +1,9 @@
 #!/usr/bin/env python3
-"""Writes an ordinary snapshot of about so many bytes: snapshot.py BYTES FILE.
+"""Writes an ordinary snapshot of about so many bytes: snapshot.py BYTES FILE [unrelated].
 
 Each entity is a trip update with twenty stop time updates (sequence, stop id, arrival and departure times), some 40
-bytes for each nested message. It needs nothing but Python.
+bytes for each nested message. No rule breaks in it but, with `unrelated`, W009 at each update, which then gives no relationship. It
+needs nothing but Python.
 """
 import sys
 
@@ -24,11 +25,11 @@ def payload(field, data):
     return varint(field * 8 + 2) + varint(len(data)) + data
 
 
-def stop(sequence, time):
+def stop(sequence, time, related=True):
     arrival = number(1, 60) + number(2, time)
     departure = number(1, 60) + number(2, time + 30)
     return (number(1, sequence) + payload(2, arrival) + payload(3, departure)
-            + payload(4, b"stop%06d" % (sequence * 37)) + number(5, 0))
+            + payload(4, b"stop%06d" % (sequence * 37)) + (number(5, 0) if related else b""))
 
 
 def entity(i, stops):
@@ -40,7 +41,7 @@ def entity(i, stops):
 
 def main():
     size, name = int(sys.argv[1]), sys.argv[2]
-    stops = [stop(s, 1700000000 + 120 * s) for s in range(1, 21)]
+    stops = [stop(s, 1700000000 + 120 * s, sys.argv[3:] != ["unrelated"]) for s in range(1, 21)]
     out = bytearray(payload(1, payload(1, b"2.0") + number(2, 0) + number(3, 1700000000)))
     i = 0
     while True:
@@ -54,4 +55,5 @@ def main():
     print("%s: %d bytes, %d entities" % (name, len(out), i))
 
 
-main()
+if __name__ == "__main__":
+    main()

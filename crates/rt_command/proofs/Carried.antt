@@ -13,7 +13,6 @@ use Rattle.timetable.specs.declared.fault.LoadFault.TheVariants as load
 use Rattle.timetable.specs.declared.file.File.{File}
 use Rattle.rt_command.specs.declared.fault.Fault.{Fault}
 use Rattle.rt_command.specs.declared.fault.Fault.TheVariants as fault
-use Rattle.rt_command.specs.declared.wanted.Wanted.{Wanted}
 use Rattle.rt_command.specs.declared.status.Status.{Status}
 use Rattle.rt_command.specs.declared.status.Status.TheVariants as answer
 use Rattle.rt_command.specs.declared.input_fault.InputFault.{InputFault}
@@ -221,9 +220,9 @@ module _ (report whole : Contents → Report) (reads more : List ℕ → Type 0)
   carried_within same is carried = within (contents_told first.told) same refl is carried
 
 -- the same of equal names
-pub carried_names : (wanted : Wanted) (a b : List (List ℕ)) (before after : Outside) (result : Status) → a ≡ b →
-    CarriesOut (files_report wanted a) (Contains a) before after result → CarriesOut (files_report wanted b) (Contains b) before after result
-carried_names wanted a b before after result same = subst (λ names. CarriesOut (files_report wanted names) (Contains names) before after result) same
+pub carried_names : (accepts : List ℕ → Report) (a b : List (List ℕ)) (before after : Outside) (result : Status) → a ≡ b →
+    CarriesOut (files_report accepts a) (Contains a) before after result → CarriesOut (files_report accepts b) (Contains b) before after result
+carried_names accepts a b before after result same = subst (λ names. CarriesOut (files_report accepts names) (Contains names) before after result) same
 
 -- the same of an equal folder, an equal moment and equal names
 pub carried_at : (f g : Option (List ℕ)) (m n : ℕ) (a b : List (List ℕ)) (before after : Outside) (result : Status) → f ≡ g → m ≡ n → a ≡ b →

@@ -1,6 +1,5 @@
-pub mod Texts
-pub mod Floats
 pub mod Appended
+pub mod Added
 pub mod Named
 pub mod Reports
 pub mod Requests

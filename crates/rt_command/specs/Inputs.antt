@@ -36,3 +36,12 @@ refusal_of folder (Err fault) = Some (refusal_text folder fault)
 unfoldable pub timetable_refusal : Option (List ℕ) → Contents → Option (List ℕ)
 timetable_refusal None contents = None
 timetable_refusal (Some folder) contents = refusal_of folder (tables_of folder contents)
+
+-- the tables of the timetable that a request asks for, if it asks for one and it is accepted
+abbrev pub accepted_tables : Result Tables LoadFault → Option Tables
+accepted_tables (Ok tables) = Some tables
+accepted_tables (Err fault) = None
+
+unfoldable pub timetable_of : Option (List ℕ) → Contents → Option Tables
+timetable_of None contents = None
+timetable_of (Some folder) contents = accepted_tables (tables_of folder contents)

@@ -1,9 +1,40 @@
--- What a snapshot's report is in the code.
-use Rattle.std.specs.Prelude.{◌≡◌, string_bytes}
+-- What a snapshot's report is in the code: a function of what the snapshot says, which is the same as that of its bytes.
+use Rattle.std.specs.Prelude.{◌≡◌, ℕ, List, [], ◌∷◌, ◌++◌, length, Option, Result, Ok, Err}
+use Rattle.feed_values.specs.Schema.{Value}
+use Rattle.feed_values.specs.Messages.{feed_message}
+use Rattle.feed_codec.specs.declared.refusal.Refusal.{Refusal}
+use Rattle.serde_json.specs.Written.{compact_text}
+use Rattle.feed_json.specs.Form.{form}
+use Rattle.timetable.specs.Timetables.{Tables}
+use Rattle.rule_core.specs.Answered.{tables_of}
+use Rattle.judging.specs.Judged.{snapshot_found}
 use Rattle.rt_command.specs.declared.judge.Judged.{Judged}
-use Rattle.rt_command.specs.Report.{Report}
+use Rattle.rt_command.specs.declared.status.Status.TheVariants as answer
+use Rattle.rt_command.specs.declared.wanted.Wanted.{Wanted}
+use Rattle.rt_command.specs.declared.wanted.Wanted.TheVariants.{Findings, Form}
+use Rattle.rt_command.specs.Report.{Report, refused_report, found_report, accepted_report, shown_report}
 
 -- it has the report's text and answer
 pub record IsJudged (report : Report) (judged : Judged) : Type 0 where
-  pub text : string_bytes judged.text ≡ report.text
+  pub text : judged.text.items ≡ report.text
   pub status : judged.status ≡ report.status
+
+-- what a command makes of an accepted snapshot, by what it wants
+abbrev pub accepts : Wanted → List ℕ → Report
+accepts (Findings moment timetable) bytes = accepted_report (tables_of timetable.now) moment bytes
+accepts Form bytes = shown_report bytes
+
+-- ---- of what a snapshot says
+abbrev pub findings_report : Option Tables → ℕ → Value feed_message → Report
+findings_report t moment v = found_report moment (length v.1.0) (snapshot_found t 0 moment v.0 v.1.0)
+
+abbrev pub form_report : Value feed_message → Report
+form_report v = record { text = compact_text (form feed_message v) ++ 10 ∷ []; errors = []; status = answer.Clean }
+
+abbrev pub message_report : Wanted → Value feed_message → Report
+message_report (Findings moment timetable) v = findings_report (tables_of timetable.now) moment v
+message_report Form v = form_report v
+
+abbrev pub value_report : Wanted → Result (Value feed_message) Refusal → Report
+value_report wanted (Ok v) = message_report wanted v
+value_report wanted (Err refusal) = refused_report refusal

@@ -3,9 +3,7 @@ pub mod Exits
 pub mod Words
 pub mod Inputs
 pub mod JsonInputs
-pub mod Lines
-pub mod LineValues
-pub mod HeaderRules
+pub mod Findings
 pub mod Found
 pub mod Judged
 pub mod Faults

@@ -1,10 +1,10 @@
 //! The command `check`.
 ghost use Rattle.std.specs.Prelude.{◌≡◌, Contains, length, option_copied};
-ghost use Rattle.rt_command.specs.Report.{files_report, check_report};
+ghost use Rattle.rule_core.specs.Answered.{tables_of};
+ghost use Rattle.rt_command.specs.Report.{accepted_report, files_report, check_report};
 ghost use Rattle.rt_command.specs.Carried.{CarriesOut};
 ghost use Rattle.rt_command.specs.Outside.{outside};
 ghost use Rattle.rt_command.specs.Faults.{IsInput};
-ghost use Rattle.rt_command.specs.declared.wanted.Wanted.TheVariants as Wanted;
 
 use crate::refusal::say_load_fault;
 use crate::report_file::report_file;
@@ -17,8 +17,8 @@ use timetable::Timetable;
 
 /// Carries out `check` on the one file that `names` has, at this moment, as POSIX time in seconds.
 ///
-/// Where a folder is given, its timetable is read first; one that is refused ends the run. No rule looks
-/// at it yet.
+/// Where a folder is given, its timetable is read first; one that is refused ends the run. Where none is given, the rules
+/// against the timetable find nothing.
 pub fn check<F: Files, S: Sink, E: Sink>(
     alloc: Global,
     moment: u64,
@@ -35,31 +35,35 @@ pub fn check<F: Files, S: Sink, E: Sink>(
         (outside (F.state files.new) (S.state out.new) (E.state err.new)) result }
 {
     match folder {
-        None => check_first(alloc, moment, names, files, out, err),
+        None => {
+            let timetable = Timetable::absent(alloc);
+            check_first(alloc, moment, &timetable, names, files, out, err)
+        }
         Some(folder) => {
             let folder = folder.as_str();
             match Timetable::load(alloc, files, folder) {
-                Ok(_timetable) => check_first(alloc, moment, names, files, out, err),
+                Ok(timetable) => check_first(alloc, moment, &timetable, names, files, out, err),
                 Err(fault) => say_load_fault(alloc, err, folder, fault),
             }
         }
     }
 }
 
-// Carries out `check` on the one file that `names` has, without a timetable.
+// Carries out `check` on the one file that `names` has, with this timetable.
 fn check_first<F: Files, S: Sink, E: Sink>(
     alloc: Global,
     moment: u64,
+    timetable: &Timetable,
     names: &Items<Text>,
     files: &mut F,
     out: &mut S,
     err: &mut E,
 ) -> Status
     requires { length names.now ≡ 1 }
-    ensures { CarriesOut (files_report (Wanted.Findings moment) names.now) (Contains names.now)
+    ensures { CarriesOut (files_report (accepted_report (tables_of timetable.now) moment) names.now) (Contains names.now)
         (outside (F.state files.old) (S.state out.old) (E.state err.old))
         (outside (F.state files.new) (S.state out.new) (E.state err.new)) result }
 {
-    let wanted = Wanted::Findings { moment };
+    let wanted = Wanted::Findings { moment, timetable };
     report_file(alloc, wanted, names.as_slice()[0].as_str(), files, out, err)
 }

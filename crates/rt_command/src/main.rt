@@ -8,9 +8,9 @@
 //! From the bottom up:
 //! - `status` and `fault` are how a run ends, and why it stops before its end.
 //! - `options` and `request` are what the words ask for, and `words` reads them.
-//! - `cell`, `header_rule` and `finding` judge a header by the rows of a table.
-//! - `lines` has the lines of a report. `snapshot_file` reads a snapshot, and `judge` makes the report on it, by what is
-//!   `wanted` of it: its findings or its JSON form.
+//! - `lines` has the lines of findings, and `findings` those of a snapshot by itself, by all rules.
+//! - `snapshot_file` reads a snapshot, and `judge` makes the report on it, by what is `wanted` of it: its findings or its JSON
+//!   form.
 //! - `json_input` reads the snapshot that a JSON file says, and `input_fault` is why it isn't had.
 //! - `say` writes to the error stream, and `refusal` why a timetable isn't loaded.
 //! - `report_file` writes the report on one file, which is all of `show`. `check` and `encode` carry out their commands, and
@@ -20,14 +20,12 @@
 
 ghost use Rattle.std.specs.Prelude.{◌≡◌};
 
-mod cell;
 mod check;
 mod encode;
 mod fault;
-mod finding;
+mod findings;
 #[cfg(test)]
 mod form_tests;
-mod header_rule;
 mod input_fault;
 mod json_input;
 mod judge;

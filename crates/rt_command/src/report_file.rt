@@ -6,6 +6,7 @@ ghost use Rattle.rt_outside.specs.Causes.{Rose};
 ghost use Rattle.rt_outside.specs.Sink.{AppendsPrefix};
 ghost use Rattle.rt_outside.specs.Store.{contents_told};
 ghost use Rattle.rt_command.specs.Report.{snapshot_report, files_report};
+ghost use Rattle.rt_command.specs.Judged.{accepts};
 ghost use Rattle.rt_command.specs.Carried.{CarriesOut};
 ghost use Rattle.rt_command.specs.Outside.{outside};
 ghost use Rattle.rt_command.specs.Faults.{IsCarriedOut};
@@ -21,13 +22,13 @@ use std::alloc::Global;
 /// Writes the report on the snapshot in this file, by what is wanted of it where it is accepted.
 pub fn report_file<F: Files, S: Sink, E: Sink>(
     alloc: Global,
-    wanted: Wanted,
+    wanted: Wanted<'_>,
     file: &str,
     files: &mut F,
     out: &mut S,
     err: &mut E,
 ) -> Status
-    ensures { CarriesOut (files_report wanted (file.now ∷ [])) (Contains (file.now ∷ []))
+    ensures { CarriesOut (files_report (accepts wanted.entry) (file.now ∷ [])) (Contains (file.now ∷ []))
         (outside (F.state files.old) (S.state out.old) (E.state err.old))
         (outside (F.state files.new) (S.state out.new) (E.state err.new)) result }
 {
@@ -40,16 +41,16 @@ pub fn report_file<F: Files, S: Sink, E: Sink>(
 // Writes the report on one file.
 fn write_report<F: Files, S: Sink>(
     alloc: Global,
-    wanted: Wanted,
+    wanted: Wanted<'_>,
     file: &str,
     files: &mut F,
     out: &mut S,
 ) -> Result<Status, Fault>
     ensures text { IfSome (contents_told (F.state files.old).told) (λ held.
         AppendsPrefix (S.state out.old).written (S.state out.new).written
-        (snapshot_report wanted (get held file.now)).text) }
+        (snapshot_report (accepts wanted.entry) (get held file.now)).text) }
     ensures whole { IfSome (contents_told (F.state files.old).told) (λ held. IfOk result (λ status.
-        let report = snapshot_report wanted (get held file.now) in (status ≡ report.status)
+        let report = snapshot_report (accepts wanted.entry) (get held file.now) in (status ≡ report.status)
         × ((S.state out.new).written ≡ append_known (S.state out.old).written report.text))) }
     ensures carried_out { IfOk result IsCarriedOut }
     ensures asked { IfSome (F.state files.new).asked (λ last. last ≡ file.now) }
@@ -57,6 +58,6 @@ fn write_report<F: Files, S: Sink>(
     ensures write { IsErrOf result Fault.Write → Rose (S.state out.old).faults (S.state out.new).faults }
 {
     let judged = judge_file(alloc, wanted, files, file)?;
-    put_all(out, judged.text.as_bytes())?;
+    put_all(out, &judged.text)?;
     Ok(judged.status)
 }

@@ -4,8 +4,7 @@ ghost use Rattle.std.specs.FinMap.{get};
 ghost use Rattle.rt_outside.specs.Causes.{Rose};
 ghost use Rattle.rt_outside.specs.Store.{contents_told};
 ghost use Rattle.feed_codec.specs.Refusal.{refusal, refused};
-ghost use Rattle.rt_command.specs.Found.{found_value};
-ghost use Rattle.rt_command.specs.Report.{snapshot_in, decoded};
+ghost use Rattle.rt_command.specs.Found.{found_value, snapshot_in, decoded};
 
 use crate::fault::Fault;
 use feed_codec::{CodecFault, Reason, Refusal, SNAPSHOT_LIMIT, decode};

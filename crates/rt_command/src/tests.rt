@@ -70,7 +70,7 @@ pub fn run_words<F: Files>(
         alloc,
         words,
         files,
-        MemorySink::new(alloc, 2000)?,
+        MemorySink::new(alloc, 4000)?,
         MemorySink::new(alloc, 2000)?,
     )
 }
@@ -204,15 +204,13 @@ H 0
 0a0810001880e2cfaa060a050a03322e30 0
 0a120a03322e3010001880e2cfaa86808080807e 0
 H12030a0178 1
-H12030a017812050a01781001 2
-H12090a01611a001a020a00 1
 H3a01ff12060a01783a01ff 1
 0a0d0a03322e3010091880e2cfaa06 0 E049
 0a070a03322e301000 0 E048
 0a050a03322e30 0 E048 E049
-0a050a03312e30 0
+0a0b0a03312e301880e2cfaa06 0
 0a0b0a013910001880e2cfaa06 0 \"9\"
-0a050a03612262 0 \"a\\\"b\"
+0a0b0a036122621880e2cfaa06 0 \"a\\\"b\"
 ";
 
 const E048: &str =
@@ -251,6 +249,47 @@ fn an_accepted_snapshot_has_its_count_and_its_findings(rt: HostRuntime) -> Resul
     }
     let deep = accepted(alloc, "0")?;
     assert!(rt; checks(alloc, &nested(alloc, 100)?, Status::Clean, deep.as_str())?);
+    Ok(())
+}
+
+// The bytes of a snapshot, the number of its entities, and the lines of its findings.
+const WORKED: [(&str, &str, &str); 4] = [
+    (
+        "H12030a017812050a01781001",
+        "2",
+        "{\"facts\":[{\"ask\":\"cell\",\"keys\":[\"is_deleted\"],\"value\":1}],\"feed\":0,\"id\":\"x\",\"level\":\"E\",\"line\":\"finding\",\"occurrence\":1,\"path\":\"is_deleted\",\"rule\":\"E039\",\"since\":0}\n{\"facts\":[{\"ask\":\"cell\",\"keys\":[\"id\"],\"value\":\"x\"},{\"ask\":\"occurrence\",\"keys\":[],\"value\":1}],\"feed\":0,\"id\":\"x\",\"level\":\"X\",\"line\":\"finding\",\"occurrence\":1,\"path\":\"id\",\"rule\":\"X002\",\"since\":0}\n",
+    ),
+    (
+        "H12090a01611a001a020a00",
+        "1",
+        "{\"facts\":[{\"ask\":\"cell\",\"keys\":[\"trip_update.stop_time_update\"],\"value\":0},{\"ask\":\"cell\",\"keys\":[\"trip_update.trip.schedule_relationship\"],\"value\":null}],\"feed\":0,\"id\":\"a\",\"level\":\"E\",\"line\":\"finding\",\"occurrence\":0,\"path\":\"trip_update.stop_time_update\",\"rule\":\"E041\",\"since\":0}\n{\"facts\":[{\"ask\":\"cell\",\"keys\":[\"trip_update\"],\"value\":1},{\"ask\":\"cell\",\"keys\":[\"trip_update.timestamp\"],\"value\":null}],\"feed\":0,\"id\":\"a\",\"level\":\"W\",\"line\":\"finding\",\"occurrence\":0,\"path\":\"trip_update.timestamp\",\"rule\":\"W001\",\"since\":0}\n{\"facts\":[{\"ask\":\"cell\",\"keys\":[\"trip_update\"],\"value\":1},{\"ask\":\"cell\",\"keys\":[\"trip_update.vehicle.id\"],\"value\":null}],\"feed\":0,\"id\":\"a\",\"level\":\"W\",\"line\":\"finding\",\"occurrence\":0,\"path\":\"trip_update.vehicle.id\",\"rule\":\"W002\",\"since\":0}\n{\"facts\":[{\"ask\":\"cell\",\"keys\":[\"trip_update\"],\"value\":1},{\"ask\":\"cell\",\"keys\":[\"trip_update.trip.trip_id\"],\"value\":null}],\"feed\":0,\"id\":\"a\",\"level\":\"W\",\"line\":\"finding\",\"occurrence\":0,\"path\":\"trip_update.trip.trip_id\",\"rule\":\"W006\",\"since\":0}\n{\"facts\":[{\"ask\":\"cell\",\"keys\":[\"trip_update\"],\"value\":1},{\"ask\":\"cell\",\"keys\":[\"trip_update.trip.schedule_relationship\"],\"value\":null}],\"feed\":0,\"id\":\"a\",\"level\":\"W\",\"line\":\"finding\",\"occurrence\":0,\"path\":\"trip_update.trip.schedule_relationship\",\"rule\":\"W009\",\"since\":0}\n",
+    ),
+    (
+        "H12360a01611a310a060a02543120001208080312020800280012080803120208002800120808021202080028001a030a01762080e2cfaa06",
+        "1",
+        "{\"facts\":[{\"ask\":\"cell\",\"keys\":[\"trip_update.stop_time_update[0].stop_sequence\"],\"value\":3},{\"ask\":\"cell\",\"keys\":[\"trip_update.stop_time_update[1].stop_sequence\"],\"value\":3}],\"feed\":0,\"id\":\"a\",\"level\":\"E\",\"line\":\"finding\",\"occurrence\":0,\"path\":\"trip_update.stop_time_update[1].stop_sequence\",\"rule\":\"E002\",\"since\":0}\n{\"facts\":[{\"ask\":\"cell\",\"keys\":[\"trip_update.stop_time_update[1].stop_sequence\"],\"value\":3},{\"ask\":\"cell\",\"keys\":[\"trip_update.stop_time_update[2].stop_sequence\"],\"value\":2}],\"feed\":0,\"id\":\"a\",\"level\":\"E\",\"line\":\"finding\",\"occurrence\":0,\"path\":\"trip_update.stop_time_update[2].stop_sequence\",\"rule\":\"E002\",\"since\":0}\n{\"facts\":[{\"ask\":\"cell\",\"keys\":[\"trip_update.stop_time_update[0].stop_sequence\"],\"value\":3},{\"ask\":\"cell\",\"keys\":[\"trip_update.stop_time_update[1].stop_sequence\"],\"value\":3}],\"feed\":0,\"id\":\"a\",\"level\":\"E\",\"line\":\"finding\",\"occurrence\":0,\"path\":\"trip_update.stop_time_update[1].stop_sequence\",\"rule\":\"E036\",\"since\":0}\n",
+    ),
+    (
+        "H12190a017022140a060a02543120002880e2cfaa0642040a02763112190a017122140a060a02543120002880e2cfaa0642040a027631",
+        "2",
+        "{\"facts\":[{\"ask\":\"cell\",\"keys\":[\"vehicle.vehicle.id\"],\"value\":\"v1\"},{\"ask\":\"first_id\",\"keys\":[\"0\",\"v1\"],\"value\":\"p\"},{\"ask\":\"first_occurrence\",\"keys\":[\"0\",\"v1\"],\"value\":0}],\"feed\":0,\"id\":\"q\",\"level\":\"E\",\"line\":\"finding\",\"occurrence\":0,\"path\":\"vehicle.vehicle.id\",\"rule\":\"E052\",\"since\":0}\n",
+    ),
+];
+
+// Whether `check f` writes these lines behind that of an accepted snapshot, and finds an error.
+fn finds(alloc: Global, bytes: &[u8], entities: &str, lines: &str) -> Result<bool, AllocError> {
+    let mut want = accepted(alloc, entities)?;
+    want.push_str(lines)?;
+    checks(alloc, bytes, Status::Found, want.as_str())
+}
+
+#[test]
+fn findings_stand_by_entity_and_rule_with_their_facts(rt: HostRuntime) -> Result<(), Fail> {
+    let alloc = rt.alloc();
+    for (bytes, entities, lines) in WORKED {
+        let held = bytes_of(alloc, bytes)?;
+        assert!(rt; finds(alloc, &held, entities, lines)?, "{bytes}");
+    }
     Ok(())
 }
 
@@ -376,21 +415,48 @@ fn is_usage(alloc: Global, words: &[&str]) -> Result<bool, AllocError> {
     )
 }
 
+// A moment, its number, the line of what its header breaks, and whether that is an error.
+const MOMENTS: [(&str, &str, &str, bool); 6] = [
+    (
+        "0",
+        "0",
+        "{\"facts\":[{\"ask\":\"head_now\",\"keys\":[\"header.timestamp\"],\"value\":1700000000},{\"ask\":\"moment\",\"keys\":[],\"value\":0}],\"feed\":0,\"level\":\"E\",\"line\":\"finding\",\"path\":\"header.timestamp\",\"rule\":\"E050\",\"since\":0}\n",
+        true,
+    ),
+    (
+        "1699999939",
+        "1699999939",
+        "{\"facts\":[{\"ask\":\"head_now\",\"keys\":[\"header.timestamp\"],\"value\":1700000000},{\"ask\":\"moment\",\"keys\":[],\"value\":1699999939}],\"feed\":0,\"level\":\"E\",\"line\":\"finding\",\"path\":\"header.timestamp\",\"rule\":\"E050\",\"since\":0}\n",
+        true,
+    ),
+    ("1699999940", "1699999940", "", false),
+    ("00000000001700000065", "1700000065", "", false),
+    (
+        "1700000066",
+        "1700000066",
+        "{\"facts\":[{\"ask\":\"head_now\",\"keys\":[\"header.timestamp\"],\"value\":1700000000},{\"ask\":\"moment\",\"keys\":[],\"value\":1700000066}],\"feed\":0,\"level\":\"W\",\"line\":\"finding\",\"path\":\"header.timestamp\",\"rule\":\"W008\",\"since\":0}\n",
+        false,
+    ),
+    (
+        "18446744073709551615",
+        "18446744073709551615",
+        "{\"facts\":[{\"ask\":\"head_now\",\"keys\":[\"header.timestamp\"],\"value\":1700000000},{\"ask\":\"moment\",\"keys\":[],\"value\":18446744073709551615}],\"feed\":0,\"level\":\"W\",\"line\":\"finding\",\"path\":\"header.timestamp\",\"rule\":\"W008\",\"since\":0}\n",
+        false,
+    ),
+];
+
 #[test]
 fn the_moment_is_that_of_the_words(rt: HostRuntime) -> Result<(), Fail> {
     let alloc = rt.alloc();
-    let rows = [
-        ("0", "0"),
-        ("00000000000000000005", "5"),
-        ("18446744073709551615", "18446744073709551615"),
-    ];
-    for (word, moment) in rows {
+    for (word, moment, finding, is_error) in MOMENTS {
         let words = ["check", "--now", word, "f"];
         let ended = run_words(alloc, &words, &mut one_file(alloc, HEADER)?)?;
-        let want = format!(in alloc;
+        let mut want = format!(in alloc;
             "{{\"bounded\":0,\"entities\":0,\"feed\":0,\"line\":\"accepted\",\"moment\":{moment},\"paired\":0,\"row\":0,\"snapshot\":0,\"tested\":0}}\n"
         )?;
-        assert_eq!(rt; ended.status, Status::Clean, "{word}");
+        want.push_str(finding)?;
+        let status = if is_error { Status::Found } else { Status::Clean };
+        assert_eq!(rt; ended.status, status, "{word}");
         assert_eq!(rt; ended.out.written(), want.as_bytes(), "{word}");
     }
     Ok(())

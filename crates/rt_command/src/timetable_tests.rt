@@ -1,7 +1,7 @@
 //! Runs of `check` on a timetable in memory, against worked rows.
 
 use crate::status::Status;
-use crate::tests::{Ended, HEADER, accepted, run_words};
+use crate::tests::{Ended, HEADER, accepted, bytes_of, run_words};
 use rt_outside::MemoryFiles;
 use std::alloc::{AllocError, Global};
 use std::test::Fail;
@@ -67,6 +67,51 @@ WK,1,1,1,1,1,0,0,20231101,20231231\n",
         assert_eq!(rt; ended.status, Status::Clean, "{name}");
         assert_eq!(rt; ended.out.written(), line.as_bytes(), "{name}");
         assert!(rt; ended.err.written().is_empty(), "{name}");
+    }
+    Ok(())
+}
+
+const FREQUENCIES: &[u8] =
+    b"trip_id,start_time,end_time,headway_secs,exact_times\nF1,08:00:00,09:00:00,600,1\n";
+
+// The bytes of a snapshot with one entity, and the lines of its findings with the town's timetable.
+const SCHEDULED: [(&str, &str); 4] = [
+    (
+        "H12200a01611a1b0a040a025839120808011202080028001a030a01762080e2cfaa06",
+        "{\"facts\":[{\"ask\":\"cell\",\"keys\":[\"trip_update.trip.trip_id\"],\"value\":\"X9\"},{\"ask\":\"cell\",\"keys\":[\"trip_update.trip.schedule_relationship\"],\"value\":null},{\"ask\":\"trip_known\",\"keys\":[\"X9\"],\"value\":0}],\"feed\":0,\"id\":\"a\",\"level\":\"E\",\"line\":\"finding\",\"occurrence\":0,\"path\":\"trip_update.trip.trip_id\",\"rule\":\"E003\",\"since\":0}\n{\"facts\":[{\"ask\":\"cell\",\"keys\":[\"trip_update\"],\"value\":1},{\"ask\":\"cell\",\"keys\":[\"trip_update.trip.schedule_relationship\"],\"value\":null}],\"feed\":0,\"id\":\"a\",\"level\":\"W\",\"line\":\"finding\",\"occurrence\":0,\"path\":\"trip_update.trip.schedule_relationship\",\"rule\":\"W009\",\"since\":0}\n",
+    ),
+    (
+        "H12220a01611a1d0a060a0258392001120808011202080028001a030a01762080e2cfaa06",
+        "",
+    ),
+    (
+        "H12360a01611a310a1a0a024631120830383a31303a30301a0832303233313131342000120808011202080028001a030a01762080e2cfaa06",
+        "",
+    ),
+    (
+        "H12360a01611a310a1a0a024631120830383a31353a30301a0832303233313131342000120808011202080028001a030a01762080e2cfaa06",
+        "{\"facts\":[{\"ask\":\"cell\",\"keys\":[\"trip_update.trip.trip_id\"],\"value\":\"F1\"},{\"ask\":\"cell\",\"keys\":[\"trip_update.trip.start_time\"],\"value\":\"08:15:00\"},{\"ask\":\"trip_exact\",\"keys\":[\"F1\"],\"value\":1},{\"ask\":\"on_grid\",\"keys\":[\"F1\",\"08:15:00\"],\"value\":0}],\"feed\":0,\"id\":\"a\",\"level\":\"E\",\"line\":\"finding\",\"occurrence\":0,\"path\":\"trip_update.trip.start_time\",\"rule\":\"E019\",\"since\":0}\n",
+    ),
+];
+
+#[test]
+fn rules_ask_the_timetable(rt: HostRuntime) -> Result<(), Fail> {
+    let alloc = rt.alloc();
+    for (bytes, lines) in SCHEDULED {
+        let mut want = accepted(alloc, "1")?;
+        want.push_str(lines)?;
+        let held = bytes_of(alloc, bytes)?;
+        let mut files = town(alloc)?;
+        files.add("town/frequencies.txt", FREQUENCIES)?;
+        files.add("f", &held)?;
+        let ended = run_words(alloc, &["check", "--timetable", "town", "f"], &mut files)?;
+        let status = if lines.is_empty() {
+            Status::Clean
+        } else {
+            Status::Found
+        };
+        assert_eq!(rt; ended.status, status, "{bytes}");
+        assert_eq!(rt; ended.out.written(), want.as_bytes(), "{bytes}");
     }
     Ok(())
 }

@@ -18,22 +18,22 @@ both_same h k = cc
 pub both_none : {a b : List Found} → a ≡ [] → b ≡ [] → (a ++ b) ≡ []
 both_none h k = cc
 
-stands_left : (xs ys : List Found) (rule : RuleId) (p : Place) → StandsAt xs rule p → StandsAt (xs ++ ys) rule p
+pub stands_left : (xs ys : List Found) (rule : RuleId) (p : Place) → StandsAt xs rule p → StandsAt (xs ++ ys) rule p
 stands_left [] ys rule p h = absurd h
 stands_left (x ∷ xs) ys rule p (inl e) = inl e
 stands_left (x ∷ xs) ys rule p (inr h) = inr (stands_left xs ys rule p h)
 
-stands_right : (xs ys : List Found) (rule : RuleId) (p : Place) → StandsAt ys rule p → StandsAt (xs ++ ys) rule p
+pub stands_right : (xs ys : List Found) (rule : RuleId) (p : Place) → StandsAt ys rule p → StandsAt (xs ++ ys) rule p
 stands_right [] ys rule p h = h
 stands_right (x ∷ xs) ys rule p h = inr (stands_right xs ys rule p h)
 
-stands_either : (xs ys : List Found) (rule : RuleId) (p : Place) → StandsAt (xs ++ ys) rule p → StandsAt xs rule p ⊎ StandsAt ys rule p
+pub stands_either : (xs ys : List Found) (rule : RuleId) (p : Place) → StandsAt (xs ++ ys) rule p → StandsAt xs rule p ⊎ StandsAt ys rule p
 stands_either [] ys rule p h = inr h
 stands_either (x ∷ xs) ys rule p (inl e) = inl (inl e)
 stands_either (x ∷ xs) ys rule p (inr h) = elim (stands_either xs ys rule p h) [ inl l ↦ inl (inr l) | inr r ↦ inr r ]
 
 -- a rule that stands is one of the list
-rule_of : (rules : List RuleId) (P : Place → Type 0) (xs : List Found) (rule : RuleId) (p : Place) → AreOf rules P xs → StandsAt xs rule p → has_rule rules rule ≡ true
+pub rule_of : (rules : List RuleId) (P : Place → Type 0) (xs : List Found) (rule : RuleId) (p : Place) → AreOf rules P xs → StandsAt xs rule p → has_rule rules rule ≡ true
 rule_of rules P [] rule p own h = absurd h
 rule_of rules P (x ∷ xs) rule p own (inl e) = ap (has_rule rules) (sym e.0) ∙ own.0.rule
 rule_of rules P (x ∷ xs) rule p own (inr h) = rule_of rules P xs rule p own.1 h

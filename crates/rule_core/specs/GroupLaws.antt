@@ -99,7 +99,7 @@ pub record Stands (rule : RuleId) (Q : Place → Type 0) (f : Found) : Type 0 wh
 weaker : (rule : RuleId) (P Q : Place → Type 0) → ((q : Place) → P q → Q q) → (f : Found) → Stands rule P f → Stands rule Q f
 weaker rule P Q w f o = record { rule_is = o.rule_is; at = w f.place o.at }
 
-all_weaker : (rule : RuleId) (P Q : Place → Type 0) → ((q : Place) → P q → Q q) → (fs : List Found) → Each (Stands rule P) fs → Each (Stands rule Q) fs
+pub all_weaker : (rule : RuleId) (P Q : Place → Type 0) → ((q : Place) → P q → Q q) → (fs : List Found) → Each (Stands rule P) fs → Each (Stands rule Q) fs
 all_weaker rule P Q w fs h = each_weaken (Stands rule P) (Stands rule Q) (weaker rule P Q w) fs h
 
 at_of : (rule : RuleId) (at : Place) (o : Option (List Fact)) → Each (Stands rule (λ q. q ≡ at)) (found_of rule at o)
@@ -110,7 +110,7 @@ at_of rule at (Some facts) =
       | false ↦ tt
     ]
 
-at_place : (rule : RuleId) (answer : Ask → Option CellValue) (at : Place) → Each (Stands rule (λ q. q ≡ at)) (found_at rule answer at)
+pub at_place : (rule : RuleId) (answer : Ask → Option CellValue) (at : Place) → Each (Stands rule (λ q. q ≡ at)) (found_at rule answer at)
 at_place rule answer at =
     elim (nat_le (first_of rule) (index_of at)) as (λ b. Each (Stands rule (λ q. q ≡ at)) (cond b (found_of rule at (cited answer at [] (cites_at rule at))) [])) [
       | true ↦ at_of rule at (cited answer at [] (cites_at rule at))
@@ -122,7 +122,7 @@ once_of rule at None = tt
 once_of rule at (Some facts) =
     elim (passes at (test_at rule at) (values_of facts)) as (λ b. Once (cond b (let r : Found = record { rule = rule; place = at; facts = facts } in r ∷ []) [])) [ true ↦ (tt, tt) | false ↦ tt ]
 
-once_at : (rule : RuleId) (answer : Ask → Option CellValue) (at : Place) → Once (found_at rule answer at)
+pub once_at : (rule : RuleId) (answer : Ask → Option CellValue) (at : Place) → Once (found_at rule answer at)
 once_at rule answer at =
     elim (nat_le (first_of rule) (index_of at)) as (λ b. Once (cond b (found_of rule at (cited answer at [] (cites_at rule at))) [])) [
       | true ↦ once_of rule at (cited answer at [] (cites_at rule at))
@@ -130,7 +130,7 @@ once_at rule answer at =
     ]
 
 -- parts at different places
-once_apart : (rule : RuleId) (P Q : Place → Type 0) → ((q : Place) → P q → Q q → ⊥) → (xs ys : List Found) → Each (Stands rule P) xs → Each (Stands rule Q) ys → Once xs → Once ys → Once (xs ++ ys)
+pub once_apart : (rule : RuleId) (P Q : Place → Type 0) → ((q : Place) → P q → Q q → ⊥) → (xs ys : List Found) → Each (Stands rule P) xs → Each (Stands rule Q) ys → Once xs → Once ys → Once (xs ++ ys)
 once_apart rule P Q never xs ys h m o n =
     once_append xs ys o n
     (each_weaken (Stands rule P) (λ f. Each (Differ f) ys)
@@ -274,13 +274,13 @@ slots_rise W008 = refl
 slots_rise W009 = refl
 slots_rise X002 = refl
 
-is_one : (rule : RuleId) → has_rule (rule ∷ []) rule ≡ true
+pub is_one : (rule : RuleId) → has_rule (rule ∷ []) rule ≡ true
 is_one rule = or_left (rule_number rule == rule_number rule) false (eq-eqb (rule_number rule) (rule_number rule) refl)
 
 row_once : (rule : RuleId) (answer : Ask → Option CellValue) (k : EntityKey) (e : Value entity) → Once (found_by rule answer k e)
 row_once rule answer k e = once_in rule answer k e 0 (slots_of rule) (slots_rise rule)
 
-row_own : (rule : RuleId) (answer : Ask → Option CellValue) (k : EntityKey) (e : Value entity) → AreOf (rule ∷ []) (IsUnder k) (found_by rule answer k e)
+pub row_own : (rule : RuleId) (answer : Ask → Option CellValue) (k : EntityKey) (e : Value entity) → AreOf (rule ∷ []) (IsUnder k) (found_by rule answer k e)
 row_own rule answer k e =
     each_weaken (Stands rule (From k 0)) (IsOf (rule ∷ []) (IsUnder k))
     (λ f o. record {
@@ -299,10 +299,10 @@ not_true : (b : Bool) → not b ≡ true → b ≡ false
 not_true true h = cc
 not_true false h = refl
 
-apart_first : (rule : RuleId) (rules : List RuleId) → are_apart (rule ∷ rules) ≡ true → NoneInBoth (rule ∷ []) rules
+pub apart_first : (rule : RuleId) (rules : List RuleId) → are_apart (rule ∷ rules) ≡ true → NoneInBoth (rule ∷ []) rules
 apart_first rule rules h = not_true (list_any (has_rule rules) (rule ∷ [])) (and_true (not (list_any (has_rule rules) (rule ∷ []))) (are_apart rules) h).0
 
-apart_rest : (rule : RuleId) (rules : List RuleId) → are_apart (rule ∷ rules) ≡ true → are_apart rules ≡ true
+pub apart_rest : (rule : RuleId) (rules : List RuleId) → are_apart (rule ∷ rules) ≡ true → are_apart rules ≡ true
 apart_rest rule rules h = (and_true (not (list_any (has_rule rules) (rule ∷ []))) (are_apart rules) h).1
 
 pub all_once : (rules : List RuleId) (answer : Ask → Option CellValue) (k : EntityKey) (e : Value entity) → are_apart rules ≡ true → Once (found_all rules answer k e)

@@ -18,6 +18,10 @@ pub mod Changed
 pub mod Laws
 pub mod Groups
 pub mod GroupLaws
+pub mod HeadLaws
 pub mod PairAgree
 pub mod Bounds
 pub mod BothLaws
+pub mod CitedLaws
+pub mod Sources
+pub mod Same

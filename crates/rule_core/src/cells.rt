@@ -1,7 +1,8 @@
 //! Cited cells by their numbers.
 ghost use Rattle.std.specs.Prelude.{◌≡◌, IfOk, map, option_copied};
-ghost use Rattle.feed_values.specs.Cells.{cell_value};
+ghost use Rattle.feed_values.specs.Cells.{cell_value, text_cell};
 ghost use Rattle.rule_core.specs.Asked.{value_at, text_at, number_at, sequence_at, in_range};
+ghost use Rattle.rule_core.specs.Answered.{yes, natural_cell};
 
 use feed_values::{CellRef, CellValue, Text};
 use std::alloc::{AllocError, Global};
@@ -87,5 +88,32 @@ pub(crate) fn value_of(alloc: Global, cell: CellRef<'_>) -> Result<CellValue, Al
             owned.push(text)?;
             Ok(CellValue::Text(owned))
         }
+    }
+}
+
+/// A yes or a no as a cell: 1 or 0.
+pub fn truth_cell(holds: bool) -> CellRef<'static>
+    ensures { cell_value result ≡ yes holds }
+{
+    CellRef::Number(holds as i128)
+}
+
+/// A number as a cell, `Missing` where there is none.
+pub fn number_cell(number: Option<u32>) -> CellRef<'static>
+    ensures { cell_value result ≡ natural_cell number }
+{
+    match number {
+        Some(number) => CellRef::Number(number as i128),
+        None => CellRef::Missing,
+    }
+}
+
+/// A text as a cell, `Missing` where there is none.
+pub fn text_cell(text: Option<&str>) -> CellRef<'_>
+    ensures { cell_value result ≡ text_cell (option_copied text.entry) }
+{
+    match text {
+        Some(text) => CellRef::Text(text),
+        None => CellRef::Missing,
     }
 }

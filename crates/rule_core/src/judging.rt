@@ -1,5 +1,5 @@
 //! Judging a rule at an entity and on a header.
-ghost use Rattle.std.specs.Prelude.{◌≡◌, true, false, ◌≤◌, ◌++◌, length, OnOk};
+ghost use Rattle.std.specs.Prelude.{◌≡◌, true, false, ◌+◌, ◌≤◌, ◌++◌, length, OnOk};
 ghost use Rattle.std.specs.Option.{option_map};
 ghost use Rattle.std.specs.List.{Contains};
 ghost use Rattle.feed_values.specs.Cells.{has_item, way};
@@ -8,7 +8,7 @@ ghost use Rattle.rule_core.specs.Asked.{place_value, slot_of, index_of};
 ghost use Rattle.rule_core.specs.declared.place.Place.TheVariants as place;
 ghost use Rattle.rule_core.specs.Table.{slots_of, head_slots_of};
 ghost use Rattle.rule_core.specs.Rows.{slots_at};
-ghost use Rattle.rule_core.specs.Judged.{found_at, found_below, found_by, found_on, head_found_by, places_at, updates_in, periods_in, selectors_in};
+ghost use Rattle.rule_core.specs.Judged.{found_at, found_below, found_by, found_all, found_on, head_found_by, head_found_all, places_at, updates_in, periods_in, selectors_in};
 
 use crate::answers::Answers;
 use crate::citing::{cite, is_broken};
@@ -19,7 +19,9 @@ use crate::place::PlaceRef;
 use crate::rule::RuleId;
 use crate::table::{cites_at, first, head_slots, slots, test_at};
 use feed_values::{Alert, Entity, Path, Slot, TripUpdate};
+use rt_outside::Steps;
 use std::alloc::{AllocError, Global};
+use std::sync::ledger::Ledger;
 
 fn updates(held: &Option<TripUpdate>) -> usize
     ensures { result ≡ updates_in (option_map trip_update_value held.now) }
@@ -180,6 +182,49 @@ pub fn judge_head<A: Answers>(
 {
     for slot in head_slots(rule) {
         judge_head_slot(alloc, answers, rule, feed, *slot, out)?;
+    }
+    Ok(())
+}
+
+/// Appends the findings of some rules at an entity, one rule after the other and those of one rule by slot and index, and
+/// ticks once for each rule, before it is judged.
+pub fn judge_rules<A: Answers, L: Ledger>(
+    alloc: Global,
+    answers: &A,
+    rules: &[RuleId],
+    key: &EntityKey,
+    entity: &Entity,
+    out: &mut FindingList,
+    steps: &mut Steps<L>,
+) -> Result<(), AllocError>
+    ensures found { OnOk result (out.new ≡ out.old ++ found_all rules.now (A.answers answers.now) key.now (entity_value entity.now)) }
+    ensures ticked { OnOk result (steps.new ≡ steps.old + length rules.now) }
+    ensures most { steps.new ≤ steps.old + length rules.now }
+{
+    for rule in rules {
+        steps.tick();
+        judge_rule(alloc, answers, *rule, key, entity, out)?;
+    }
+    Ok(())
+}
+
+/// Appends the findings of some rules on the header of a feed, one rule after the other and those of one rule by slot, and
+/// ticks once for each rule, before it is judged.
+pub fn judge_heads<A: Answers, L: Ledger>(
+    alloc: Global,
+    answers: &A,
+    rules: &[RuleId],
+    feed: u8,
+    out: &mut FindingList,
+    steps: &mut Steps<L>,
+) -> Result<(), AllocError>
+    ensures found { OnOk result (out.new ≡ out.old ++ head_found_all rules.now (A.answers answers.now) feed) }
+    ensures ticked { OnOk result (steps.new ≡ steps.old + length rules.now) }
+    ensures most { steps.new ≤ steps.old + length rules.now }
+{
+    for rule in rules {
+        steps.tick();
+        judge_head(alloc, answers, *rule, feed, out)?;
     }
     Ok(())
 }

@@ -6,7 +6,7 @@ ghost use Rattle.rule_core.specs.Judged.{found_all};
 ghost use Rattle.rule_core.specs.Answered.{local_answer};
 
 use crate::finding_list::FindingList;
-use crate::judging::judge_rule;
+use crate::judging::judge_rules;
 use crate::key::EntityKey;
 use crate::local_rule::{LocalAnswers, LocalRule};
 use crate::rule::RuleId;
@@ -54,10 +54,6 @@ impl LocalRule for Listed {
         steps: &mut Steps<L>,
     ) -> Result<(), AllocError> {
         let answers = LocalAnswers { table, key, entity };
-        for rule in self.rules {
-            steps.tick();
-            judge_rule(alloc, &answers, *rule, key, entity, out)?;
-        }
-        Ok(())
+        judge_rules(alloc, &answers, self.rules, key, entity, out, steps)
     }
 }

@@ -1,6 +1,6 @@
 //! The rules by name.
 ghost use Rattle.std.specs.Prelude.{◌≡◌};
-ghost use Rattle.rule_core.specs.Rules.{rule_name, level};
+ghost use Rattle.rule_core.specs.Rules.{rule_name, rule_number, level};
 
 /// A rule, in the order of the rules' texts. `docs/rules.md` says what each is for.
 ///
@@ -121,6 +121,13 @@ impl RuleId {
             RuleId::W009 => "W009",
             RuleId::X002 => "X002",
         }
+    }
+
+    /// Its place in the order of the rules' texts, from 0.
+    pub fn number(self) -> u8
+        ensures { result ≡ rule_number self }
+    {
+        self as u8
     }
 
     /// How much a finding of the rule weighs, the first letter of its text: `E` an error, `W` a warning, `X` an error of this

@@ -3,40 +3,17 @@ ghost use Rattle.std.specs.Prelude.{◌≡◌, ◌&&◌, IfSome, Some, is_some, 
 ghost use Rattle.rt_day.specs.Time.{time_of};
 ghost use Rattle.std.specs.Option.{option_map};
 ghost use Rattle.std.specs.List.{list_any};
-ghost use Rattle.feed_values.specs.Cells.{cell_value, text_cell};
+ghost use Rattle.feed_values.specs.Cells.{cell_value};
 ghost use Rattle.timetable.specs.Lookups.{IsStop, tables_in};
 ghost use Rattle.timetable.specs.Timetables.{visits_twice};
 ghost use Rattle.rule_core.specs.Asked.{ask_value};
-ghost use Rattle.rule_core.specs.Answered.{yes, natural_cell, tables_of, timetable_answer, trip_known, trip_row, frequencies_of, exact_number, is_start, is_on_grid, times_of, first_time, time_at, stop_at};
+ghost use Rattle.rule_core.specs.Answered.{tables_of, timetable_answer, trip_known, trip_row, frequencies_of, exact_number, is_start, is_on_grid, times_of, first_time, time_at, stop_at};
 
 use crate::ask::AskRef;
+use crate::cells::{number_cell, text_cell, truth_cell};
 use feed_values::CellRef;
 use rt_day::parse_time;
 use timetable::{Frequency, StopTime, Timetable};
-
-fn truth(holds: bool) -> CellRef<'static>
-    ensures { cell_value result ≡ yes holds }
-{
-    CellRef::Number(holds as i128)
-}
-
-fn number(number: Option<u32>) -> CellRef<'static>
-    ensures { cell_value result ≡ natural_cell number }
-{
-    match number {
-        Some(number) => CellRef::Number(number as i128),
-        None => CellRef::Missing,
-    }
-}
-
-fn text(text: Option<&str>) -> CellRef<'_>
-    ensures { cell_value result ≡ text_cell (option_copied text.entry) }
-{
-    match text {
-        Some(text) => CellRef::Text(text),
-        None => CellRef::Missing,
-    }
-}
 
 fn is_known(table: &Timetable, trip: &str) -> bool
     ensures { result ≡ trip_known (tables_in table.now) trip.now }
@@ -178,19 +155,19 @@ pub(crate) fn table_answer<'a>(table: &'a Timetable, ask: AskRef<'_>) -> Option<
         return None;
     }
     match ask {
-        AskRef::TripKnown(trip) => Some(truth(is_known(table, trip))),
-        AskRef::RouteKnown(route) => Some(truth(table.has_route(route))),
-        AskRef::AgencyKnown(agency) => Some(truth(table.has_agency(agency))),
-        AskRef::StopKind(stop) => Some(number(table.stop_kind(stop))),
-        AskRef::TripRoute(trip) => Some(text(route(table, trip))),
-        AskRef::TripDirection(trip) => Some(number(direction(table, trip))),
-        AskRef::TripExact(trip) => Some(number(exact(table, trip))),
-        AskRef::OnGrid(trip, time) => Some(truth(is_on_grid(table, trip, time))),
-        AskRef::VisitsTwice(trip) => Some(truth(returns(table, trip))),
-        AskRef::FirstArrival(trip) => Some(number(first_arrival(table, trip))),
-        AskRef::StopAt(trip, n) => Some(text(stop(table, trip, n))),
-        AskRef::ArrivalAt(trip, n) => Some(number(arrival(table, trip, n))),
-        AskRef::DepartureAt(trip, n) => Some(number(departure(table, trip, n))),
+        AskRef::TripKnown(trip) => Some(truth_cell(is_known(table, trip))),
+        AskRef::RouteKnown(route) => Some(truth_cell(table.has_route(route))),
+        AskRef::AgencyKnown(agency) => Some(truth_cell(table.has_agency(agency))),
+        AskRef::StopKind(stop) => Some(number_cell(table.stop_kind(stop))),
+        AskRef::TripRoute(trip) => Some(text_cell(route(table, trip))),
+        AskRef::TripDirection(trip) => Some(number_cell(direction(table, trip))),
+        AskRef::TripExact(trip) => Some(number_cell(exact(table, trip))),
+        AskRef::OnGrid(trip, time) => Some(truth_cell(is_on_grid(table, trip, time))),
+        AskRef::VisitsTwice(trip) => Some(truth_cell(returns(table, trip))),
+        AskRef::FirstArrival(trip) => Some(number_cell(first_arrival(table, trip))),
+        AskRef::StopAt(trip, n) => Some(text_cell(stop(table, trip, n))),
+        AskRef::ArrivalAt(trip, n) => Some(number_cell(arrival(table, trip, n))),
+        AskRef::DepartureAt(trip, n) => Some(number_cell(departure(table, trip, n))),
         _ => None,
     }
 }

@@ -1,0 +1,64 @@
+-- What an engine says of one more snapshot, and what it owes for it.
+use Rattle.std.specs.Prelude.{◌≡◌, ℕ, ◌==◌, ◌&&◌, ◌||◌, not, Bool, List, length, Option}
+use Rattle.std.specs.List.{list_any}
+use Rattle.feed_values.specs.Snapshot.{entity_payloads, entity_of}
+use Rattle.timetable.specs.Timetables.{Tables}
+use Rattle.rule_core.specs.declared.rule.RuleId.TheVariants.{E012, E050}
+use Rattle.rule_core.specs.Rules.{same_rule}
+use Rattle.rule_core.specs.Pairs.{rows_of}
+use Rattle.rule_core.specs.History.{Snapshot, Keyed, entities_in, entities_of_snapshot, below, feed_limit}
+use Rattle.rule_core.specs.Answered.{payload_under}
+use Rattle.rule_core.specs.Findings.{findings}
+use Rattle.rule_core.specs.Changed.{with, is_payload, is_paired, keeps_bounds, count_of, tested, paired, bounded}
+use Rattle.rule_core.specs.Standing.{Standing, Spot, opened, closed}
+use Rattle.engine_laws.specs.HeldFeeds.{HeldFeed, list_under, rows_held, opened_in, closed_in}
+
+-- how many snapshots were before, how many entities this one has, what it opened and closed, and three counts of entities
+pub record Delta : Type 0 where
+  pub snapshot : ℕ
+  pub entities : ℕ
+  pub opened : List Standing
+  pub closed : List Spot
+  pub tested : ℕ
+  pub paired : ℕ
+  pub bounded : ℕ
+
+-- It is what a snapshot changes after a history, where the list is the one of the longer history: the findings that weren't
+-- there with the same facts, each with its number; the rules at places that stood and don't; and how many entities are new,
+-- or concerned by rows that came or went, or by a bound that moved.
+pub record IsDelta (t : Option Tables) (g : List Snapshot) (s : Snapshot) (list : List Standing) (d : Delta) : Type 0 where
+  pub snapshot_is : d.snapshot ≡ length g
+  pub entities_is : d.entities ≡ length (entity_payloads s.bytes)
+  pub opened_is : d.opened ≡ opened (findings t g) list
+  pub closed_is : d.closed ≡ closed (findings t g) (findings t (with g s))
+  pub tested_is : d.tested ≡ tested g s
+  pub paired_is : d.paired ≡ paired g s
+  pub bounded_is : d.bounded ≡ bounded t g s
+
+-- ---- the counts by what is held
+-- whether an entity isn't under its key among some, or has another byte string there
+abbrev pub is_other : List Keyed → Keyed → Bool
+is_other old e = not (is_payload e.1 (payload_under e.0 old))
+
+-- whether a bound stands in a list
+abbrev pub has_limit : List Standing → Bool
+has_limit xs = list_any (λ x. same_rule x.finding.rule E012 || same_rule x.finding.rule E050) xs
+
+abbrev pub is_new : HeldFeed → Keyed → Bool
+is_new old e = is_other (entities_of_snapshot old.last) e
+
+abbrev pub is_limited : Snapshot → HeldFeed → HeldFeed → Keyed → Bool
+is_limited s old new e = not (keeps_bounds s old.last) && (has_limit (list_under e.0 old.entities) || has_limit (list_under e.0 new.entities))
+
+-- What is owed of a delta: how many snapshots were taken, how many entities there are, what opened and closed list by list, and
+-- how many entities of the snapshot are new or have another byte string, how many of all feeds do so or have a row that shares
+-- an id with one that came or went, and how many of the snapshot do so or are limited.
+pub record IsChange (applied : ℕ) (s : Snapshot) (old new : ℕ → HeldFeed) (d : Delta) : Type 0 where
+  pub snapshot_is : d.snapshot ≡ applied
+  pub entities_is : d.entities ≡ length (entity_payloads s.bytes)
+  pub opened_is : d.opened ≡ below (λ f. opened_in (old f) (new f)) feed_limit
+  pub closed_is : d.closed ≡ below (λ f. closed_in (old f) (new f)) feed_limit
+  pub tested_is : d.tested ≡ count_of (is_new (old s.feed)) (entities_in s.feed s.bytes)
+  pub paired_is : d.paired ≡ count_of (λ e. (e.0.feed == s.feed && is_new (old s.feed) e) || is_paired (rows_held old) (rows_held new) (rows_of e.0 (entity_of e.1)))
+      (below (λ f. entities_of_snapshot (new f).last) feed_limit)
+  pub bounded_is : d.bounded ≡ count_of (λ e. is_new (old s.feed) e || is_limited s (old s.feed) (new s.feed) e) (entities_in s.feed s.bytes)

@@ -1,0 +1,4 @@
+pub mod Rules
+pub mod Exact
+pub mod Stamps
+pub mod StampGroups

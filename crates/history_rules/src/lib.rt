@@ -1,0 +1,14 @@
+//! The rules on the timestamps of entities and on headers, as two groups: two rows and ten rows of the table of `rule_core`.
+//! Beside them the timestamps of all entities as a set, which says whose timestamps are above a bound.
+#![tactic(auto)]
+
+mod bound_group;
+mod head_group;
+mod keys;
+mod moment;
+mod stamp_groups;
+mod stamp_index;
+
+pub use bound_group::BoundGroup;
+pub use head_group::HeadGroup;
+pub use stamp_index::StampIndex;

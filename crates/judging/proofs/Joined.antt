@@ -1,0 +1,153 @@
+-- The findings of the groups, rule by rule, are those of all rules.
+use Rattle.std.specs.Prelude.{◌≡◌, ℕ, Bool, true, false, List, ◌++◌, Option, Some, None, refl}
+use Rattle.std.specs.Option.{option_or}
+use Rattle.std.specs.List.{list_all}
+use Rattle.std.proofs.Common.{sym, ap, ◌∙◌}
+use borrow.Author.Tests.{clash}
+use Rattle.feed_values.specs.declared.slot.Slot.TheVariants.{S3}
+use Rattle.feed_values.specs.declared.cell_value.CellValue.{CellValue}
+use Rattle.feed_values.specs.Schema.{Value}
+use Rattle.feed_values.specs.Messages.{entity}
+use Rattle.feed_values.specs.Snapshot.{timestamp_of}
+use Rattle.timetable.specs.Timetables.{Tables}
+use Rattle.rule_core.specs.declared.ask.Ask.{Ask}
+use Rattle.rule_core.specs.declared.ask.Ask.TheVariants as ask
+use Rattle.rule_core.specs.declared.key.EntityKey.{EntityKey}
+use Rattle.rule_core.specs.Answered.{Heads, local_answer, pair_answer, bound_answer, timetable_answer, rows_answer}
+use Rattle.rule_core.specs.Table.{all_rules}
+use Rattle.rule_core.specs.Judged.{found_all}
+use Rattle.rule_core.specs.GroupLaws.{all_append}
+use Rattle.rule_core.specs.CitedLaws.{both_same}
+use Rattle.rule_core.specs.Pairs.{PairRow}
+use Rattle.rule_core.specs.declared.rule.RuleId.{RuleId}
+use Rattle.rule_core.specs.Groups.{NoneInBoth, are_apart}
+use Rattle.rule_core.specs.Sources.{comes_from, source_of, is_local, is_paired, is_bounded}
+use Rattle.rule_core.specs.Same.{SameFrom, all_same}
+use Rattle.message_rules.specs.Message.{message_rules}
+use Rattle.schedule_rules.specs.Schedule.{schedule_rules}
+use Rattle.pairing_rules.specs.Pairing.{pairing_rules}
+use Rattle.history_rules.specs.Rules.{bound_rules}
+use Rattle.judging.specs.Ruled.{by_rule, in_rule_order}
+use Rattle.judging.specs.Whole.{whole_answer, entity_found}
+use Rattle.judging.proofs.Ruled.{is_covered, ruled}
+
+pub groups_apart : NoneInBoth message_rules schedule_rules
+unfolding schedule_rules
+groups_apart = refl
+
+local_from : list_all (comes_from is_local) schedule_rules ≡ true
+unfolding schedule_rules
+local_from = refl
+
+abbrev entity_rules : List RuleId
+entity_rules = ((message_rules ++ schedule_rules) ++ pairing_rules) ++ bound_rules
+
+entity_apart : are_apart entity_rules ≡ true
+unfolding schedule_rules
+entity_apart = refl
+
+all_covered : list_all (is_covered entity_rules) all_rules ≡ true
+unfolding schedule_rules
+all_covered = refl
+
+or_none : {A : Type 0} (o : Option A) → option_or o None ≡ o
+or_none None = refl
+or_none (Some x) = refl
+
+module _ (t : Option Tables) (rows : List PairRow) (heads : Heads) (k : EntityKey) (e : Value entity) where
+  abbrev whole : Ask → Option CellValue
+  whole = whole_answer t rows heads k e
+
+  local_same : SameFrom is_local (local_answer t k e) whole
+  local_same (ask.Cell p) h = refl
+  local_same ask.Occurrence h = refl
+  local_same (ask.HeadNow S3) h = absurd (clash h)
+  local_same (ask.HeadNow _) h = absurd (clash h)
+  local_same (ask.HeadBefore s) h = absurd (clash h)
+  local_same ask.Moment h = absurd (clash h)
+  local_same ask.EntitiesChanged h = absurd (clash h)
+  local_same (ask.TripKnown trip) h = sym (or_none (timetable_answer t (ask.TripKnown trip)))
+  local_same (ask.RouteKnown route) h = sym (or_none (timetable_answer t (ask.RouteKnown route)))
+  local_same (ask.AgencyKnown agency) h = sym (or_none (timetable_answer t (ask.AgencyKnown agency)))
+  local_same (ask.StopKind stop) h = sym (or_none (timetable_answer t (ask.StopKind stop)))
+  local_same (ask.TripRoute trip) h = sym (or_none (timetable_answer t (ask.TripRoute trip)))
+  local_same (ask.TripDirection trip) h = sym (or_none (timetable_answer t (ask.TripDirection trip)))
+  local_same (ask.TripExact trip) h = sym (or_none (timetable_answer t (ask.TripExact trip)))
+  local_same (ask.OnGrid trip time) h = sym (or_none (timetable_answer t (ask.OnGrid trip time)))
+  local_same (ask.VisitsTwice trip) h = sym (or_none (timetable_answer t (ask.VisitsTwice trip)))
+  local_same (ask.FirstArrival trip) h = sym (or_none (timetable_answer t (ask.FirstArrival trip)))
+  local_same (ask.StopAt trip n) h = sym (or_none (timetable_answer t (ask.StopAt trip n)))
+  local_same (ask.ArrivalAt trip n) h = sym (or_none (timetable_answer t (ask.ArrivalAt trip n)))
+  local_same (ask.DepartureAt trip n) h = sym (or_none (timetable_answer t (ask.DepartureAt trip n)))
+  local_same (ask.FirstVehicle kind trip) h = absurd (clash h)
+  local_same (ask.HasPair kind trip vehicle) h = absurd (clash h)
+  local_same (ask.AnyRow kind) h = absurd (clash h)
+  local_same (ask.HasTrip kind trip) h = absurd (clash h)
+  local_same (ask.HasVehicle kind vehicle) h = absurd (clash h)
+  local_same (ask.FirstId feed vehicle) h = absurd (clash h)
+  local_same (ask.FirstOccurrence feed vehicle) h = absurd (clash h)
+
+  -- a timetable answers nothing of pairing rows
+  no_table : (q : Ask) → is_paired (source_of q) ≡ true → timetable_answer t q ≡ None
+  no_table q h = either t
+    where
+      table : (u : Tables) → timetable_answer (Some u) q ≡ None
+      table u = at q h where
+        at : (r : Ask) → is_paired (source_of r) ≡ true → timetable_answer (Some u) r ≡ None
+        at (ask.Cell p) m = refl
+        at ask.Occurrence m = refl
+        at (ask.HeadNow S3) m = absurd (clash m)
+        at (ask.HeadNow _) m = absurd (clash m)
+        at (ask.HeadBefore s) m = absurd (clash m)
+        at ask.Moment m = absurd (clash m)
+        at ask.EntitiesChanged m = absurd (clash m)
+        at (ask.FirstVehicle kind trip) m = refl
+        at (ask.HasPair kind trip vehicle) m = refl
+        at (ask.AnyRow kind) m = refl
+        at (ask.HasTrip kind trip) m = refl
+        at (ask.HasVehicle kind vehicle) m = refl
+        at (ask.FirstId feed vehicle) m = refl
+        at (ask.FirstOccurrence feed vehicle) m = refl
+        at _ m = absurd (clash m)
+
+      either : (o : Option Tables) → timetable_answer o q ≡ None
+      either None = refl
+      either (Some u) = table u
+
+  pair_same : SameFrom is_paired (pair_answer rows k e) whole
+  pair_same (ask.Cell p) h = refl
+  pair_same ask.Occurrence h = refl
+  pair_same (ask.HeadNow S3) h = absurd (clash h)
+  pair_same (ask.HeadNow _) h = absurd (clash h)
+  pair_same (ask.HeadBefore s) h = absurd (clash h)
+  pair_same ask.Moment h = absurd (clash h)
+  pair_same ask.EntitiesChanged h = absurd (clash h)
+  pair_same (ask.FirstVehicle kind trip) h = sym (ap (λ o. option_or o (rows_answer rows (ask.FirstVehicle kind trip))) (no_table (ask.FirstVehicle kind trip) h))
+  pair_same (ask.HasPair kind trip vehicle) h = sym (ap (λ o. option_or o (rows_answer rows (ask.HasPair kind trip vehicle))) (no_table (ask.HasPair kind trip vehicle) h))
+  pair_same (ask.AnyRow kind) h = sym (ap (λ o. option_or o (rows_answer rows (ask.AnyRow kind))) (no_table (ask.AnyRow kind) h))
+  pair_same (ask.HasTrip kind trip) h = sym (ap (λ o. option_or o (rows_answer rows (ask.HasTrip kind trip))) (no_table (ask.HasTrip kind trip) h))
+  pair_same (ask.HasVehicle kind vehicle) h = sym (ap (λ o. option_or o (rows_answer rows (ask.HasVehicle kind vehicle))) (no_table (ask.HasVehicle kind vehicle) h))
+  pair_same (ask.FirstId feed vehicle) h = sym (ap (λ o. option_or o (rows_answer rows (ask.FirstId feed vehicle))) (no_table (ask.FirstId feed vehicle) h))
+  pair_same (ask.FirstOccurrence feed vehicle) h = sym (ap (λ o. option_or o (rows_answer rows (ask.FirstOccurrence feed vehicle))) (no_table (ask.FirstOccurrence feed vehicle) h))
+  pair_same _ h = absurd (clash h)
+
+  bound_same : SameFrom is_bounded (bound_answer (timestamp_of heads.header) heads.moment k e) whole
+  bound_same (ask.Cell p) h = refl
+  bound_same ask.Occurrence h = refl
+  bound_same (ask.HeadNow S3) h = refl
+  bound_same (ask.HeadNow _) h = absurd (clash h)
+  bound_same ask.Moment h = refl
+  bound_same _ h = absurd (clash h)
+
+  pub joined : in_rule_order (((found_all message_rules (local_answer t k e) k e ++ found_all schedule_rules (local_answer t k e) k e) ++ found_all pairing_rules (pair_answer rows k e) k e)
+      ++ found_all bound_rules (bound_answer (timestamp_of heads.header) heads.moment k e) k e) ≡ entity_found t rows heads k e
+  unfolding in_rule_order entity_found
+  joined =
+      ap (by_rule all_rules)
+      (both_same (both_same (both_same (all_same is_local (local_answer t k e) whole local_same message_rules refl k e) (all_same is_local (local_answer t k e) whole local_same schedule_rules local_from k e)
+      ∙ sym (all_append message_rules schedule_rules whole k e))
+      (all_same is_paired (pair_answer rows k e) whole pair_same pairing_rules refl k e)
+      ∙ sym (all_append (message_rules ++ schedule_rules) pairing_rules whole k e))
+      (all_same is_bounded (bound_answer (timestamp_of heads.header) heads.moment k e) whole bound_same bound_rules refl k e)
+      ∙ sym (all_append ((message_rules ++ schedule_rules) ++ pairing_rules) bound_rules whole k e))
+      ∙ ruled whole k e entity_rules all_rules entity_apart all_covered

@@ -1,0 +1,14 @@
+use Rattle.std.proofs.Common.{◌++◌, ap, ◌∙◌, map}
+use Rattle.std.specs.Option.{option_map, option_copied}
+use Rattle.feed_values.specs.Views.{feed_header_value}
+use Rattle.rule_core.specs.Answered.{Heads, heads_answer}
+use Rattle.rule_core.specs.Judged.{head_found_all}
+use Rattle.history_rules.specs.Rules.{head_rules}
+use Rattle.judging.proofs.Headed.{headed_all}
+use Rattle.judging.proofs.all_rules.AllRules.judge_header.Goals as goal
+
+pub returns-clause-found : goal.returns-clause-found
+returns-clause-found g c t rows =
+    let heads : Heads = record { header = feed_header_value c.args.now.now; previous = option_map feed_header_value (option_copied c.args.before); changed = c.args.changed; moment = c.args.moment } in
+    c.into_items.ensures ∙ c.in_ok-judge.ensures.found ∙ ap (λ xs. xs ++ head_found_all head_rules (heads_answer heads) c.args.feed) c.new-out.ensures
+    ∙ headed_all t rows heads c.args.feed

@@ -1,0 +1,4 @@
+pub mod Ruled
+pub mod Whole
+pub mod Seats
+pub mod Judged

@@ -1,0 +1,30 @@
+-- The findings of all rules at an entity and on a header, for what is known there.
+use Rattle.std.specs.Prelude.{ℕ, Bool, List, Option}
+use Rattle.std.specs.Option.{option_or}
+use Rattle.feed_values.specs.Schema.{Value}
+use Rattle.feed_values.specs.Messages.{entity}
+use Rattle.feed_values.specs.declared.cell_value.CellValue.{CellValue}
+use Rattle.timetable.specs.Timetables.{Tables}
+use Rattle.rule_core.specs.declared.ask.Ask.{Ask}
+use Rattle.rule_core.specs.declared.key.EntityKey.{EntityKey}
+use Rattle.rule_core.specs.Answered.{Heads, entity_answer, heads_answer, timetable_answer, rows_answer}
+use Rattle.rule_core.specs.Found.{Found}
+use Rattle.rule_core.specs.Judged.{found_all, head_found_all}
+use Rattle.rule_core.specs.Pairs.{PairRow}
+use Rattle.rule_core.specs.Table.{all_rules}
+
+-- what is answered of a feed: by its headers, the timetable and the pairing rows
+abbrev pub feed_answer : Option Tables → List PairRow → Heads → Ask → Option CellValue
+feed_answer t rows heads a = option_or (heads_answer heads a) (option_or (timetable_answer t a) (rows_answer rows a))
+
+-- what is answered at an entity: by itself, and of its feed
+abbrev pub whole_answer : Option Tables → List PairRow → Heads → EntityKey → Value entity → Ask → Option CellValue
+whole_answer t rows heads key e a = option_or (entity_answer key e a) (feed_answer t rows heads a)
+
+-- every rule at every place of an entity
+unfoldable pub entity_found : Option Tables → List PairRow → Heads → EntityKey → Value entity → List Found
+entity_found t rows heads key e = found_all all_rules (whole_answer t rows heads key e) key e
+
+-- every rule at every place of a header
+unfoldable pub header_found : Option Tables → List PairRow → Heads → ℕ → List Found
+header_found t rows heads feed = head_found_all all_rules (feed_answer t rows heads) feed

@@ -1,0 +1,18 @@
+//! One snapshot judged: its entities under their keys, and the findings of all rules on its header and at each entity, rule by
+//! rule in the order of their texts.
+//!
+//! The rules come in groups, each with what it is answered by. `AllRules` puts the groups together; its findings are those of
+//! the whole table.
+#![tactic(auto)]
+
+mod all_rules;
+mod laws;
+mod rows;
+mod ruling;
+mod seating;
+
+pub use all_rules::AllRules;
+pub use laws::one_snapshot_is_its_history;
+pub use rows::rows_of;
+pub use ruling::rule_by_rule;
+pub use seating::seats;

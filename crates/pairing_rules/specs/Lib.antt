@@ -1,0 +1,7 @@
+pub mod Pairing
+pub mod Agreeing
+pub mod Numbers
+pub mod Rows
+pub mod Slots
+pub mod Index
+pub mod ByKind

@@ -1,0 +1,42 @@
+//! Pairing rows.
+ghost use Rattle.std.specs.Prelude.{◌≡◌, option_copied};
+ghost use Rattle.pairing_rules.specs.Numbers.{blank};
+
+use feed_values::Text;
+use rule_core::Kind;
+
+/// The ids that a trip update or a vehicle position of an entity gives. Rows are ordered by kind, then feed, id and occurrence.
+#[derive(Debug, PartialEq, Eq, PartialOrd, Ord, Drop)]
+pub struct PairRow {
+    pub kind: Kind,
+    /// From 0.
+    pub feed: u8,
+    /// The id of the entity.
+    pub id: Text,
+    /// How many entities with that id stand before it in its snapshot.
+    pub occurrence: u32,
+    pub trip: Option<Text>,
+    pub vehicle: Option<Text>,
+}
+
+/// The text that is given.
+pub(crate) fn given(text: &Option<Text>) -> Option<&str>
+    ensures { option_copied result ≡ text.now }
+{
+    match text {
+        Some(text) => Some(text.as_str()),
+        None => None,
+    }
+}
+
+impl PairRow {
+    /// 0 where a vehicle is given, so that such rows come first.
+    pub(crate) fn blank(&self) -> u32
+        ensures { result ≡ blank self.now.vehicle }
+    {
+        match self.vehicle {
+            Some(_) => 0,
+            None => 1,
+        }
+    }
+}

@@ -1,0 +1,26 @@
+-- What is printed of findings, and how much they weigh.
+use Rattle.std.specs.Prelude.{◌≡◌, ◌++◌, ℕ, Bool, ◌||◌, List, bytes_eq, codes}
+use Rattle.std.specs.List.{list_any, flat_map}
+use Rattle.rule_core.specs.declared.rule.RuleId.{RuleId}
+use Rattle.rule_core.specs.Rules.{level}
+use Rattle.rule_core.specs.Found.{Found}
+use Rattle.rt_report.specs.Lines.{line_of, finding_data}
+use Rattle.rt_command.specs.declared.lines.Lines.{Lines}
+use Rattle.rt_report.specs.declared.finding.LineKind.TheVariants as line
+
+-- the line of a finding that has stood since the first snapshot
+abbrev pub finding_text : Found → List ℕ
+finding_text f = line_of (finding_data line.Finding f 0)
+
+-- a rule of level E or X
+abbrev pub is_error : RuleId → Bool
+is_error rule = bytes_eq (level rule) (codes "E") || bytes_eq (level rule) (codes "X")
+
+-- whether a finding is of an error
+abbrev pub has_error : List Found → Bool
+has_error findings = list_any (λ f. is_error f.rule) findings
+
+-- lines before and after the lines of some findings were appended
+pub record AddsLines (old new : Lines) (findings : List Found) : Type 0 where
+  pub text : new.text.items ≡ old.text.items ++ flat_map finding_text findings
+  pub error : new.error ≡ (old.error || has_error findings)
