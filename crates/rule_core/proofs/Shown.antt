@@ -42,7 +42,7 @@ answer_of a (Some v) f h = kept (in_range v) h where
   kept true k = (cc, cc)
   kept false k = cc
 
-fact_holds : (answer : Ask → Option CellValue) (at : Place) (vs : List CellValue) (c : Cite) (f : Fact) → fact_at answer at vs c ≡ Some f → answer f.ask ≡ Some f.value
+pub fact_holds : (answer : Ask → Option CellValue) (at : Place) (vs : List CellValue) (c : Cite) (f : Fact) → fact_at answer at vs c ≡ Some f → answer f.ask ≡ Some f.value
 fact_holds answer at vs c f h =
     let r = and_then_some (ask_at at vs c) (λ a. answered a (answer a)) f h in
     let s = answer_of r.0 (answer r.0) f r.1.1 in
@@ -52,7 +52,7 @@ hold_more : (answer : Ask → Option CellValue) (fs : List Fact) (f : Fact) → 
 hold_more answer [] f h k = (k, tt)
 hold_more answer (x ∷ fs) f h k = (h.0, hold_more answer fs f h.1 k)
 
-cited_hold : (answer : Ask → Option CellValue) (at : Place) (before : List Fact) (cs : List Cite) (all : List Fact) → cited answer at before cs ≡ Some all → AllHold answer before → AllHold answer all
+pub cited_hold : (answer : Ask → Option CellValue) (at : Place) (before : List Fact) (cs : List Cite) (all : List Fact) → cited answer at before cs ≡ Some all → AllHold answer before → AllHold answer all
 cited_hold answer at before [] all h k = let q : before ≡ all = cc in subst (AllHold answer) q k
 cited_hold answer at before (c ∷ cs) all h k =
     let r = and_then_some (fact_at answer at (values_of before) c) (λ f. cited answer at (before ++ f ∷ []) cs) all h in

@@ -7,6 +7,7 @@ pub mod Passed
 pub mod Cited
 pub mod Broken
 pub mod Found
+pub mod Filled
 pub mod Judged
 pub mod Order
 pub mod Pairs

@@ -12,6 +12,7 @@ ghost use Rattle.rule_core.specs.Judged.{found_at, found_below, found_by, found_
 
 use crate::answers::Answers;
 use crate::citing::{cite, is_broken};
+use crate::filled::breaks_nowhere;
 use crate::finding::Finding;
 use crate::finding_list::FindingList;
 use crate::key::EntityKey;
@@ -124,7 +125,11 @@ fn judge_slot<A: Answers>(
     if places > 4294967295 {
         return Err(AllocError);
     }
-    for index in 0..places as u32 {
+    let places = places as u32;
+    if places > 1 && breaks_nowhere(answers, rule, key, slot, places) {
+        return Ok(());
+    }
+    for index in 0..places {
         judge_place(
             alloc,
             answers,

@@ -18,6 +18,7 @@ mod bound_rule;
 mod cells;
 mod citing;
 mod fact;
+mod filled;
 mod finding;
 mod finding_list;
 mod head_rule;

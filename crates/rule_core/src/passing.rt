@@ -12,7 +12,7 @@ use crate::row::Atom;
 use feed_values::CellRef;
 use rt_day::{parse_date, parse_digits, parse_time};
 
-fn is_given(cell: CellRef<'_>) -> bool
+pub(crate) fn is_given(cell: CellRef<'_>) -> bool
     ensures { result ≡ is_given (cell_value cell.entry) }
 {
     match cell {

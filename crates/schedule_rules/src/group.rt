@@ -69,6 +69,10 @@ impl LocalRule for ScheduleGroup {
         out: &mut FindingList,
         steps: &mut Steps<L>,
     ) -> Result<(), AllocError> {
+        if !table.is_present() {
+            self.inner.skip(steps);
+            return Ok(());
+        }
         self.inner.judge(alloc, table, key, entity, out, steps)
     }
 }
