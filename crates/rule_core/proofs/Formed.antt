@@ -1,5 +1,5 @@
 -- What is cited has the asks of its entries, and values alone decide the same.
-use Rattle.std.proofs.Common.{◌≡◌, Bool, true, false, cond, nat_le, List, [], ◌∷◌, ◌++◌, Option, Some, None, refl, sym, ◌∙◌, ap, append_assoc, subst, rules}
+use Rattle.std.proofs.Common.{◌≡◌, Bool, true, false, cond, nat_le, List, [], ◌∷◌, ◌++◌, Option, Some, None, option_map, refl, sym, ◌∙◌, ap, append_assoc, subst, rules}
 use Rattle.feed_values.specs.declared.cell_value.CellValue.{CellValue}
 use Rattle.rule_core.specs.declared.ask.Ask.{Ask}
 use Rattle.rule_core.specs.declared.fact.Fact.{Fact}
@@ -28,7 +28,7 @@ values_more (x ∷ xs) f = ap (λ vs. x.value ∷ vs) (values_more xs f)
 
 cited_after : (answer : Ask → Option CellValue) (at : Place) (atoms : List Atom) (before : List Fact) (cs : List Cite)
     → ((f : Fact) → broken_from answer at atoms (values_of (before ++ f ∷ [])) cs ≡ do_break at atoms (cited answer at (before ++ f ∷ []) cs))
-    → (o : Option Fact) → value_then o (λ v. broken_from answer at atoms (values_of before ++ v ∷ []) cs) ≡ do_break at atoms (and_then o (λ f. cited answer at (before ++ f ∷ []) cs))
+    → (o : Option Fact) → value_then (option_map (λ f. f.value) o) (λ v. broken_from answer at atoms (values_of before ++ v ∷ []) cs) ≡ do_break at atoms (and_then o (λ f. cited answer at (before ++ f ∷ []) cs))
 cited_after answer at atoms before cs more None = refl
 cited_after answer at atoms before cs more (Some f) = ap (λ vs. broken_from answer at atoms vs cs) (sym (values_more before f)) ∙ more f
 

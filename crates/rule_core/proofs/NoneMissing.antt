@@ -1,5 +1,5 @@
 -- A rule that wants a field missing breaks nowhere where the field is given.
-use Rattle.std.specs.Prelude.{◌≡◌, ℕ, zero, suc, nat_le, Bool, true, false, not, ◌&&◌, cond, List, [], ◌∷◌, ◌++◌, Option, Some, None, slice_get, refl}
+use Rattle.std.specs.Prelude.{◌≡◌, ℕ, zero, suc, nat_le, Bool, true, false, not, ◌&&◌, cond, List, [], ◌∷◌, ◌++◌, Option, Some, None, option_map, slice_get, refl}
 use Rattle.std.specs.List.{Contains, list_all}
 use Rattle.std.proofs.Common.{sym, ap, ◌∙◌, subst}
 use Rattle.feed_values.specs.declared.slot.Slot.{Slot}
@@ -79,7 +79,7 @@ module _ (answer : Ask → Option CellValue) (at : Place) where
       cc
   value_of vs (d ∷ cs) (x ∷ fs) h a (suc k) c e f g = value_of (vs ++ x.value ∷ []) cs fs h.2 a.1 k c e f g
 
-  given_then : (o : Option Fact) → value_then o is_given ≡ true → (f : Fact) × ((o ≡ Some f) × (is_given f.value ≡ true))
+  given_then : (o : Option Fact) → value_then (option_map (λ f. f.value) o) is_given ≡ true → (f : Fact) × ((o ≡ Some f) × (is_given f.value ≡ true))
   given_then None h = cc
   given_then (Some f) h = (f, (refl, h))
 

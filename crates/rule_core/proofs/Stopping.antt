@@ -7,14 +7,13 @@ use Rattle.std.proofs.lemmas.Option.{unwrap_or-slice_get}
 use Rattle.feed_values.specs.declared.cell_value.CellValue.{CellValue}
 use Rattle.feed_values.specs.declared.cell_value.CellValue.TheVariants as value
 use Rattle.rule_core.specs.declared.ask.Ask.{Ask}
-use Rattle.rule_core.specs.declared.fact.Fact.{Fact}
 use Rattle.rule_core.specs.declared.place.Place.{Place}
 use Rattle.rule_core.specs.declared.row.Cite.{Cite}
 use Rattle.rule_core.specs.declared.row.Atom.{Atom}
 use Rattle.rule_core.specs.declared.row.Atom.TheVariants.{Given, Missing, Is, IsNot, AtLeast, AnyMissing, Outside, NotBelow, Below, Above, Equal, Differ, IsTime, NotClock, NotDate, TimeDiffers, NotLater, NotVersion, IsVersion2, NotVersion2, NotItself}
 use Rattle.rule_core.specs.Asked.{value_at}
 use Rattle.rule_core.specs.Passed.{holds, passes, passes_by, later, last_of}
-use Rattle.rule_core.specs.Cited.{fact_at, value_then, broken_from}
+use Rattle.rule_core.specs.Cited.{value_from, value_then, broken_from}
 
 value_stays : (vs rest : List CellValue) (k : ℕ) → k < length vs → value_at (vs ++ rest) k ≡ value_at vs k
 value_stays vs rest k h =
@@ -92,13 +91,13 @@ passes_false at n [] vs h = cc
 passes_false at n (a ∷ atoms) vs h =
     one_fails (last_of a == n) (passes_by at n atoms vs) (passes at atoms vs) (holds at vs a) (passes_false at n atoms vs) h
 
-none_after : (o : Option Fact) (f : CellValue → Bool) → ((v : CellValue) → f v ≡ false) → value_then o f ≡ false
+none_after : (o : Option CellValue) (f : CellValue → Bool) → ((v : CellValue) → f v ≡ false) → value_then o f ≡ false
 none_after None f h = refl
-none_after (Some x) f h = h x.value
+none_after (Some v) f h = h v
 
 pub broken_from-fails : (answer : Ask → Option CellValue) (at : Place) (atoms : List Atom) (n : ℕ) (vs : List CellValue) (cs : List Cite)
     → passes_by at n atoms vs ≡ false → n < length vs → broken_from answer at atoms vs cs ≡ false
 broken_from-fails answer at atoms n vs [] h below = passes_false at n atoms vs h
 broken_from-fails answer at atoms n vs (c ∷ cs) h below =
-    none_after (fact_at answer at vs c) (λ v. broken_from answer at atoms (vs ++ v ∷ []) cs)
+    none_after (value_from answer at vs c) (λ v. broken_from answer at atoms (vs ++ v ∷ []) cs)
     (λ v. broken_from-fails answer at atoms n (vs ++ v ∷ []) cs (passes_by-more at n atoms vs (v ∷ []) below ∙ h) (rw (length-append vs (v ∷ [])) (omega arith)))

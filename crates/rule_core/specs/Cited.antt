@@ -1,5 +1,5 @@
 -- The facts of a row at a place, and whether they break it.
-use Rattle.std.specs.Prelude.{Bool, false, List, [], ◌∷◌, ◌++◌, map, Option, Some, None, if◌then◌else◌}
+use Rattle.std.specs.Prelude.{Bool, false, List, [], ◌∷◌, ◌++◌, map, Option, Some, None, option_map, if◌then◌else◌}
 use Rattle.feed_values.specs.declared.cell_value.CellValue.{CellValue}
 use Rattle.rule_core.specs.declared.ask.Ask.{Ask}
 use Rattle.rule_core.specs.declared.fact.Fact.{Fact}
@@ -34,11 +34,15 @@ abbrev pub do_break : Place → List Atom → Option (List Fact) → Bool
 do_break at atoms None = false
 do_break at atoms (Some facts) = passes at atoms (values_of facts)
 
-abbrev pub value_then : Option Fact → (CellValue → Bool) → Bool
-value_then None f = false
-value_then (Some x) f = f x.value
+-- ---- the same with values alone
+-- the value of a row's entry, after the values that were cited before it
+abbrev pub value_from : (Ask → Option CellValue) → Place → List CellValue → Cite → Option CellValue
+value_from answer at vs c = option_map (λ f. f.value) (fact_at answer at vs c)
 
--- the same with values alone
+abbrev pub value_then : Option CellValue → (CellValue → Bool) → Bool
+value_then None f = false
+value_then (Some v) f = f v
+
 abbrev pub broken_from : (Ask → Option CellValue) → Place → List Atom → List CellValue → List Cite → Bool
 broken_from answer at atoms vs [] = passes at atoms vs
-broken_from answer at atoms vs (c ∷ cs) = value_then (fact_at answer at vs c) (λ v. broken_from answer at atoms (vs ++ v ∷ []) cs)
+broken_from answer at atoms vs (c ∷ cs) = value_then (value_from answer at vs c) (λ v. broken_from answer at atoms (vs ++ v ∷ []) cs)

@@ -7,12 +7,12 @@ use Rattle.rule_core.specs.declared.key.EntityKey.{EntityKey}
 use Rattle.rule_core.specs.declared.place.Place.{Place}
 use Rattle.rule_core.specs.declared.place.Place.TheVariants as place
 use Rattle.rule_core.specs.declared.row.Cite.{Cite}
-use Rattle.rule_core.specs.Cited.{fact_at, value_then}
+use Rattle.rule_core.specs.Cited.{value_from, value_then}
 use Rattle.rule_core.specs.Passed.{is_given}
 
 -- at one place, by an entry that names no value cited before it
 abbrev pub gives : (Ask → Option CellValue) → Place → Cite → Bool
-gives answer at c = value_then (fact_at answer at [] c) is_given
+gives answer at c = value_then (value_from answer at [] c) is_given
 
 -- at a slot of an entity, below an index
 abbrev pub gives_below : (Ask → Option CellValue) → EntityKey → Slot → Cite → ℕ → Bool

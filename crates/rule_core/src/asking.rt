@@ -1,9 +1,12 @@
 //! What a row's entries ask, and the facts that answer.
-ghost use Rattle.std.specs.Prelude.{◌≡◌, map};
+ghost use Rattle.std.specs.Prelude.{◌≡◌, map, List, IfSome, Some};
 ghost use Rattle.std.specs.Option.{option_map};
 ghost use Rattle.feed_values.specs.Cells.{cell_value};
 ghost use Rattle.rule_core.specs.Asked.{ask_value, fact_value, place_value, path_at, place_ask, cell_ask, feed_of, trip_id_of, start_time_of, start_date_of, relationship_of, delay_of, time_of, holder_of, event_ask, other_kind, id_ask, ask_at, text_at, sequence_at, value_at};
-ghost use Rattle.rule_core.specs.Cited.{fact_at};
+ghost use Rattle.rule_core.specs.Cited.{fact_at, answered, value_from};
+ghost use Rattle.rule_core.specs.declared.ask.Ask.{Ask};
+ghost use Rattle.rule_core.specs.declared.ask.Ask.TheVariants as Asks;
+ghost use Rattle.feed_values.specs.declared.cell_value.CellValue.{CellValue};
 
 use crate::answers::Answers;
 use crate::ask::AskRef;
@@ -231,4 +234,48 @@ pub(crate) fn fact_of<'a, A: Answers>(
         return None;
     }
     Some(FactRef { ask, cell })
+}
+
+/// The path of the cell that an entry asks at an entity by itself, whatever was cited before it, where it is at the place's
+/// index or the one before.
+fn own_path(place: PlaceRef<'_>, cite: Cite) -> Option<Path>
+    ensures { IfSome result (λ path. (vs : List CellValue) → ask_at (place_value place.entry) vs cite ≡ Some (Asks.Cell path)) }
+{
+    match place {
+        PlaceRef::Head(_, _) => None,
+        PlaceRef::Entity(_, path) => match cite {
+            Cite::Place => Some(path),
+            Cite::Cell(slot) => Some(path_of(slot, path.index)),
+            Cite::Before(slot) => Some(path_of(slot, path.index.saturating_sub(1))),
+            _ => None,
+        },
+    }
+}
+
+/// A cell that isn't outside of the bounds of all answers.
+fn within(cell: Option<CellRef<'_>>) -> Option<CellRef<'_>>
+    ensures { (ask : Ask) → option_map (λ f. f.value) (answered ask (option_map cell_value cell.entry)) ≡ option_map cell_value result }
+{
+    match cell {
+        Some(cell) if is_in_range(cell) => Some(cell),
+        _ => None,
+    }
+}
+
+/// The value of a row's entry, without its ask.
+pub(crate) fn cell_of<'a, A: Answers>(
+    answers: &'a A,
+    place: PlaceRef<'_>,
+    cells: &[CellRef<'a>],
+    cite: Cite,
+) -> Option<CellRef<'a>>
+    ensures { option_map cell_value result ≡ value_from (A.answers answers.now) (place_value place.entry) (map cell_value cells.now) cite }
+{
+    match own_path(place, cite) {
+        Some(path) => within(answers.answer(AskRef::Cell(path))),
+        None => match fact_of(answers, place, cells, cite) {
+            Some(fact) => Some(fact.cell),
+            None => None,
+        },
+    }
 }

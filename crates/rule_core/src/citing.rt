@@ -5,7 +5,7 @@ ghost use Rattle.rule_core.specs.Asked.{place_value, fact_value};
 ghost use Rattle.rule_core.specs.Cited.{cited, do_break, broken_from};
 
 use crate::answers::Answers;
-use crate::asking::fact_of;
+use crate::asking::{cell_of, fact_of};
 use crate::fact::Fact;
 use crate::passing::{test_passes, test_passes_by};
 use crate::place::PlaceRef;
@@ -38,10 +38,10 @@ fn is_broken_impl<A: Answers>(
 {
     let mut cells = [CellRef::Missing; 6];
     for (k, cite) in cites.iter().enumerate() {
-        let Some(fact) = fact_of(answers, place, &cells[..k], *cite) else {
+        let Some(cell) = cell_of(answers, place, &cells[..k], *cite) else {
             return false;
         };
-        cells[k] = fact.cell;
+        cells[k] = cell;
         if !test_passes_by(place, k, atoms, &cells[..k + 1]) {
             return false;
         }

@@ -7,7 +7,7 @@ ghost use Rattle.rule_core.specs.Judged.{found_below};
 ghost use Rattle.rule_core.specs.Table.{test_of};
 
 use crate::answers::Answers;
-use crate::asking::fact_of;
+use crate::asking::cell_of;
 use crate::key::EntityKey;
 use crate::passing::is_given;
 use crate::place::PlaceRef;
@@ -19,8 +19,8 @@ use feed_values::{Path, Slot};
 fn gives<A: Answers>(answers: &A, place: PlaceRef<'_>, cite: Cite) -> bool
     ensures { result ≡ gives (A.answers answers.now) (place_value place.entry) cite }
 {
-    match fact_of(answers, place, &[], cite) {
-        Some(fact) => is_given(fact.cell),
+    match cell_of(answers, place, &[], cite) {
+        Some(cell) => is_given(cell),
         None => false,
     }
 }
