@@ -26,13 +26,7 @@ fn gives<A: Answers>(answers: &A, place: PlaceRef<'_>, cite: Cite) -> bool
 }
 
 /// Whether what an entry asks is given at each of so many places of a slot.
-fn is_filled<A: Answers>(
-    answers: &A,
-    key: &EntityKey,
-    slot: Slot,
-    places: u32,
-    cite: Cite,
-) -> bool
+fn is_filled<A: Answers>(answers: &A, key: &EntityKey, slot: Slot, places: u32, cite: Cite) -> bool
     ensures { result ≡ true → gives_below (A.answers answers.now) key.now slot cite places ≡ true }
 {
     for index in 0..places {

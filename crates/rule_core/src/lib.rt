@@ -4,7 +4,8 @@
 //! `specs/Table.antt` is the table, and `table` the same as code; the contracts of `table` say that they are equal. A
 //! rule is a row and has no code of its own. `judge_rule` and `judge_head` judge a row at an entity and on a header, with
 //! whatever `Answers` its asks. A place where the rule doesn't break takes no memory: cells are read borrowed, and a
-//! condition is tested as soon as its last cell is read.
+//! condition is tested as soon as its last cell is read. Where a rule wants a field missing that is given at each place of a
+//! list, one look along the list settles them all.
 //!
 //! A `Finding` is a rule, a place and the facts that it cites there. They break the rule, in every finding that there
 //! is, so a finding can be shown by itself.

@@ -28,5 +28,5 @@ returns-then-not-is_present-clause-found g c =
     let absent : is_present c.args.table.now ≡ false = search rules in
     let none : tables_of c.args.table.now ≡ None = rw absent refl in
     let empty : found_all schedule_rules (local_answer (tables_of c.args.table.now) key entity) key entity ≡ [] =
-        subst (λ t. found_all schedule_rules (local_answer t key entity) key entity ≡ []) (sym none) (no_timetable key entity) in
+    subst (λ t. found_all schedule_rules (local_answer t key entity) key entity ≡ []) (sym none) (no_timetable key entity) in
     rw empty (sym (append-nil c.args.out.now))
