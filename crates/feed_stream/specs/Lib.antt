@@ -1,0 +1,3 @@
+pub mod Payloads
+pub mod Parts
+pub mod Held

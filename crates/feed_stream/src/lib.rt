@@ -1,0 +1,21 @@
+//! A snapshot that arrives in pieces, and an accepted one that is held once.
+//!
+//! A `Splitter` takes the pieces of a snapshot, of whatever sizes, and contracts see it as their join. `finish` answers for
+//! the join what `decode` of feed_codec answers: the first fault, or want of memory, or a `Kept`.
+//!
+//! A `Kept` is an accepted snapshot, and contracts see it as its bytes. It owns them once. Its entities, and the header
+//! where that came in one payload, are ranges of them, so each is handed out without memory, in the form that the codec
+//! decodes.
+//!
+//! From the bottom up: `part` is a range, `parts` finds the payloads of a slot, `header` holds the header's payloads
+//! joined, `kept` and `splitter` are the two types.
+#![tactic(auto)]
+
+mod header;
+mod kept;
+mod part;
+mod parts;
+mod splitter;
+
+pub use kept::Kept;
+pub use splitter::Splitter;
