@@ -7,6 +7,7 @@ ghost use Rattle.feed_values.specs.Snapshot.{entity_payloads, header_of};
 ghost use Rattle.feed_codec.specs.Refusal.{entity_fault, refusal};
 ghost use Rattle.feed_codec.specs.Parts.{IsJoined};
 ghost use Rattle.feed_stream.specs.Payloads.{entity_bases, header_payloads};
+ghost use Rattle.feed_stream.specs.Parts.{IsWithin, part_bytes};
 
 use crate::header::{Header, join_parts};
 use crate::part::Part;
@@ -79,7 +80,7 @@ impl Kept {
         ensures payload { Some result.now ≡ slice_get (entity_payloads self.now) i }
         ensures passes { entity_fault result.now ≡ None }
     {
-        let part = self.entities[i];
+        let part = self.part(i);
         &self.bytes[part.start..part.end]
     }
 
@@ -89,7 +90,16 @@ impl Kept {
         ensures base { Some result ≡ slice_get (entity_bases self.now) i }
         ensures begins { IfSome (slice_get (entity_payloads self.now) i) (λ payload. take (length payload) (drop result self.now) ≡ payload) }
     {
-        self.entities[i].start
+        self.part(i).start
+    }
+
+    fn part(&self, i: usize) -> Part
+        requires { i < length (entity_payloads self.now) }
+        ensures within { IsWithin self.now result }
+        ensures payload { Some (part_bytes self.now result) ≡ slice_get (entity_payloads self.now) i }
+        ensures base { Some result.start ≡ slice_get (entity_bases self.now) i }
+    {
+        self.entities[i]
     }
 
     /// The payloads of the header, joined in their order, which `decode_header` takes.

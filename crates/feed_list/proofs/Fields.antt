@@ -1,0 +1,26 @@
+-- The three fields of a row.
+use Rattle.std.proofs.Common.{◌≡◌, ◌≢◌, ◌+◌, ℕ, zero, suc, List, [], ◌∷◌, length, Option, Some, None, refl, ap, arith}
+use Rattle.csv.specs.Records.{field_at}
+use Rattle.timetable.specs.Records.{Record}
+use Rattle.feed_list.specs.Rows.{Fields, fields_in}
+
+three : (a b c d e f : List ℕ) → a ≡ d → b ≡ e → c ≡ f → fields_in (a ∷ b ∷ c ∷ []) ≡ Some (record { feed = d; moment = e; path = f })
+three a b c d e f ea eb ec = rw (ea, eb, ec) refl
+
+-- a record of three fields is these fields
+pub fields_there : (xs : Record) (feed moment path : List ℕ) → length xs ≡ 3 → Some feed ≡ field_at xs 0 → Some moment ≡ field_at xs 1 → Some path ≡ field_at xs 2
+    → fields_in xs ≡ Some (record { feed = feed; moment = moment; path = path })
+unfolding field_at
+fields_there [] feed moment path n a b c = absurd cc
+fields_there (x ∷ []) feed moment path n a b c = absurd cc
+fields_there (x ∷ y ∷ []) feed moment path n a b c = absurd cc
+fields_there (x ∷ y ∷ z ∷ []) feed moment path n a b c = three x y z feed moment path cc cc cc
+fields_there (x ∷ y ∷ z ∷ w ∷ xs) feed moment path n a b c = absurd (omega (arith, n))
+
+-- a record of another number of fields is no row
+pub not_three : (xs : Record) → length xs ≢ 3 → fields_in xs ≡ None
+not_three [] n = refl
+not_three (x ∷ []) n = refl
+not_three (x ∷ y ∷ []) n = refl
+not_three (x ∷ y ∷ z ∷ []) n = absurd (n refl)
+not_three (x ∷ y ∷ z ∷ w ∷ xs) n = refl

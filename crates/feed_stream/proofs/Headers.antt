@@ -1,0 +1,40 @@
+-- The header of a kept snapshot.
+use Rattle.std.proofs.Common.{◌≡◌, ℕ, List, [], ◌∷◌, map, Option, Some, None, refl, sym, ap, ◌∙◌}
+use Rattle.std.specs.List.{AllByRecursion, concat, flat_map}
+use Rattle.rt_wire.specs.Fields.{IsBytes}
+use Rattle.rt_wire.specs.Placed.{placed_fields}
+use Rattle.feed_values.specs.Messages.{feed_header}
+use Rattle.feed_values.specs.Meaning.{fields, meaning}
+use Rattle.feed_values.specs.Accepted.{IsAccepted, header_fields}
+use Rattle.feed_values.specs.Snapshot.{header_of}
+use Rattle.feed_values.proofs.SnapshotFields.{snapshot_is_its_fields}
+use Rattle.feed_codec.specs.Refusal.{refusal}
+use Rattle.feed_codec.specs.Parts.{Passed, IsJoined}
+use Rattle.feed_codec.proofs.Joining.{parts_decide}
+use Rattle.feed_codec.proofs.SnapshotFaults.{refusal_is_first}
+use Rattle.feed_stream.specs.declared.part.Part.{Part}
+use Rattle.feed_stream.specs.Payloads.{payloads_in, header_payloads}
+use Rattle.feed_stream.specs.Parts.{part_bytes, payload_at}
+use Rattle.feed_stream.proofs.Payloads.{ranges_give}
+use Rattle.feed_stream.proofs.Passing.{accepted_passes}
+
+-- the ranges of the header's payloads, joined, are the payloads, joined
+pub header_joined : (bytes : List ℕ) (parts : List Part) → map (payload_at bytes) parts ≡ payloads_in 1 (placed_fields bytes)
+    → concat (map (part_bytes bytes) parts) ≡ concat (header_payloads bytes)
+header_joined bytes parts e = ap concat (ranges_give bytes 1 parts e)
+
+header_passes : (bytes : List ℕ) → refusal bytes ≡ None → Passed (header_payloads bytes)
+header_passes bytes accepted = accepted_passes 1 bytes accepted
+
+pub is_joined : (bytes parts : List ℕ) → refusal bytes ≡ None → parts ≡ concat (header_payloads bytes) → IsJoined parts
+is_joined bytes parts accepted e = (header_payloads bytes, header_passes bytes accepted, e)
+
+-- what the joined payloads mean is the header that the snapshot says
+pub header_means : (bytes parts : List ℕ) → IsBytes bytes → IsBytes parts → refusal bytes ≡ None → parts ≡ concat (header_payloads bytes)
+    → meaning feed_header (fields parts) ≡ header_of bytes
+header_means bytes parts bytes_are parts_are accepted e =
+    let whole = ((refusal_is_first.accepted bytes bytes_are).0 accepted).whole in
+    let joined : fields parts ≡ header_fields (fields bytes) =
+        ap fields e ∙ parts_decide.joined (header_payloads bytes) (rw e at parts_are) (header_passes bytes accepted) in
+    ap (meaning feed_header) joined ∙ ap (λ l. meaning feed_header (header_fields l)) (snapshot_is_its_fields.fields whole.0 bytes whole.1)
+    ∙ sym (snapshot_is_its_fields.header whole.0 bytes whole.1)

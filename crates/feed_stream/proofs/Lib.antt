@@ -1,0 +1,4 @@
+pub mod Payloads
+pub mod Passing
+pub mod Entities
+pub mod Headers
