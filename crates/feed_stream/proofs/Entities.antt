@@ -1,8 +1,8 @@
 -- The entities of a kept snapshot.
-use Rattle.std.proofs.Common.{◌≡◌, ◌≤◌, ◌<◌, ◌+◌, ◌-◌, ℕ, zero, suc, List, [], ◌∷◌, ◌++◌, map, length, take, drop, Option, Some, None, refl, sym, ap, subst, ◌∙◌, arith}
+use Rattle.std.proofs.Common.{◌≡◌, ◌<◌, ◌-◌, ℕ, zero, suc, List, [], ◌∷◌, map, length, take, drop, Option, Some, None, refl, sym, ap, subst, ◌∙◌, arith, get_or}
 use Rattle.std.proofs.lemmas.List.{length-map, length-take-le, length-drop}
-use Rattle.std.proofs.lemmas.Option.{slice_get-map}
-use Rattle.std.specs.Prelude.{IfSome, slice_get, slice_range}
+use Rattle.std.proofs.lemmas.Option.{slice_get-map, slice_get_read}
+use Rattle.std.specs.Prelude.{IfSome, slice_get}
 use Rattle.std.specs.Option.{option_map}
 use Rattle.std.specs.List.{AllByRecursion}
 use Rattle.rt_wire.specs.Placed.{placed_fields}
@@ -23,6 +23,10 @@ all_at P (y ∷ ys) (suc i) x h e = all_at P ys i x h.1 e
 pub entity_count : (bytes : List ℕ) (parts : List Part) → map (payload_at bytes) parts ≡ payloads_in 2 (placed_fields bytes)
     → length parts ≡ length (entity_payloads bytes)
 entity_count bytes parts e = sym (length-map parts (part_bytes bytes)) ∙ ap (λ (l : List (List ℕ)). length l) (ranges_give bytes 2 parts e)
+
+pub entity_there : (bytes : List ℕ) (parts : List Part) (i : ℕ) (p : Part) → map (payload_at bytes) parts ≡ payloads_in 2 (placed_fields bytes)
+    → i < length (entity_payloads bytes) → p ≡ get_or parts i p → slice_get parts i ≡ Some p
+entity_there bytes parts i p e lt read = slice_get_read parts (length parts) i p refl (subst (λ n. i < n) (sym (entity_count bytes parts e)) lt) read
 
 -- and give their payloads, each in its turn
 pub entity_at : (bytes : List ℕ) (parts : List Part) (i : ℕ) (p : Part) → map (payload_at bytes) parts ≡ payloads_in 2 (placed_fields bytes)

@@ -1,5 +1,5 @@
 -- In an accepted snapshot nothing is wrong with any payload.
-use Rattle.std.proofs.Common.{◌≡◌, ℕ, Bool, true, false, cond, eqb, List, [], ◌∷◌, Option, Some, None, Result, Ok, Err, refl, nat_lt, length}
+use Rattle.std.proofs.Common.{◌≡◌, ℕ, Bool, true, false, cond, eqb, List, [], ◌∷◌, Option, Some, None, Result, Ok, Err, refl, subst, nat_lt, length}
 use Rattle.std.proofs.lemmas.Bool.{eqb-true}
 use Rattle.std.specs.Option.{option_map, option_or}
 use Rattle.std.specs.List.{AllByRecursion}
@@ -25,10 +25,13 @@ unmapped base (Some x) e = absurd cc
 abbrev pub Passes : ℕ → List ℕ → Type 0
 Passes n p = part_fault n p ≡ nothing
 
+passes_as : (n number : ℕ) (p : List ℕ) → number ≡ n → Passes number p → Passes n p
+passes_as n number p e h = subst (λ k. Passes k p) e h
+
 passes_here : (n number : ℕ) (p : List ℕ) (b : Bool) → eqb number n ≡ b → Passes number p → (rest : List (List ℕ)) → AllByRecursion (Passes n) rest
     → AllByRecursion (Passes n) (option_case (cond b (Some p) None) rest (λ x. x ∷ rest))
 passes_here n number p false e h rest k = k
-passes_here n number p true e h rest k = (rw ← eqb-true number n e in h, k)
+passes_here n number p true e h rest k = (passes_as n number p (eqb-true number n e) h, k)
 
 passes_by : (n : ℕ) (b : Bool) (rest : List (List ℕ)) → AllByRecursion (Passes n) rest → AllByRecursion (Passes n) (option_case (cond b None None) rest (λ x. x ∷ rest))
 passes_by n true rest k = k
@@ -52,8 +55,11 @@ no_fault : (large : Bool) (o q : Option Refusal) → cond large (Some (refused s
 no_fault true o q e = absurd cc
 no_fault false o q e = (neither o q e).0
 
+no_part_fault : (bytes : List ℕ) → refusal bytes ≡ nothing → first_in (in_payload part_fault) (placed_fields bytes) ≡ nothing
+unfolding refusal
+no_part_fault bytes e = no_fault (nat_lt snapshot_limit (length bytes)) (first_in (in_payload part_fault) (placed_fields bytes)) (end_fault (length bytes) (fields bytes)) e
+
 -- the payloads of slot n of an accepted snapshot pass
 pub accepted_passes : (n : ℕ) (bytes : List ℕ) → refusal bytes ≡ nothing → AllByRecursion (Passes n) (given (in_slot payload_in n) (fields bytes))
-unfolding (refusal, fields)
-accepted_passes n bytes e =
-    passes_all n (placed_fields bytes) (no_fault (nat_lt snapshot_limit (length bytes)) (first_in (in_payload part_fault) (placed_fields bytes)) (end_fault (length bytes) (fields bytes)) e)
+unfolding fields
+accepted_passes n bytes e = passes_all n (placed_fields bytes) (no_part_fault bytes e)

@@ -1,9 +1,10 @@
 -- Payloads by their ranges.
-use Rattle.std.proofs.Common.{◌≡◌, ◌≤◌, ◌+◌, ℕ, Bool, true, false, cond, eqb, List, [], ◌∷◌, ◌++◌, append_assoc, map, length, Option, Some, None, Result, Ok, Err, refl, sym, ap, ◌∙◌, arith}
+use Rattle.std.proofs.Common.{◌≡◌, ◌≤◌, ◌+◌, ℕ, Bool, true, false, cond, eqb, List, [], ◌∷◌, ◌++◌, append_assoc, append-nil, map, length, Option, Some, None, Result, Ok, Err, refl, sym, ap, ◌∙◌, arith}
 use Rattle.std.proofs.lemmas.List.{map-append}
 use Rattle.std.specs.Prelude.{slice_range}
 use Rattle.std.specs.Option.{option_map}
-use Rattle.std.specs.List.{AllByRecursion}
+use Rattle.std.specs.List.{AllByRecursion, concat}
+use Rattle.std.proofs.lemmas.List.Folds.{concat-append}
 use Rattle.rt_wire.specs.declared.fault.WireFault.{WireFault}
 use Rattle.rt_wire.specs.declared.field.RawField.{RawField}
 use Rattle.rt_wire.specs.declared.field.RawValue.{RawValue}
@@ -50,6 +51,10 @@ found_more bytes n f lies parts rest all e =
     ap (λ l. l ++ payloads_in n rest) (map-append (payload_at bytes) parts (parts_in n (placed_field f)))
     ∙ append_assoc (map (payload_at bytes) parts) (map (payload_at bytes) (parts_in n (placed_field f))) (payloads_in n rest)
     ∙ ap (λ l. map (payload_at bytes) parts ++ l) (payloads_in-more bytes n f lies rest) ∙ e
+
+-- at the end all are found
+pub all_found : (found rest all : List Payload) → rest ≡ [] → found ++ rest ≡ all → found ≡ all
+all_found found rest all e h = sym (append-nil found) ∙ ap (λ l. found ++ l) (sym e) ∙ h
 
 -- ---- ranges lie in the bytes
 
@@ -109,3 +114,16 @@ ranges_bases bytes (p ∷ ps) = ap (λ (l : List ℕ). p.start ∷ l) (ranges_ba
 pub ranges_begin : (bytes : List ℕ) (n : ℕ) (parts : List Part) → map (payload_at bytes) parts ≡ payloads_in n (placed_fields bytes)
     → map (λ p. p.start) parts ≡ map (λ p. p.base) (payloads_in n (placed_fields bytes))
 ranges_begin bytes n parts e = sym (ranges_bases bytes parts) ∙ ap (map (λ p. p.base)) e
+
+-- ---- parts, joined one by one
+
+abbrev pub joined_parts : List ℕ → List Part → List ℕ
+joined_parts bytes parts = concat (map (part_bytes bytes) parts)
+
+concat_one : (p : List ℕ) → concat (p ∷ []) ≡ p
+concat_one p = append-nil p
+
+pub joined_more : (bytes : List ℕ) (front : List Part) (p : Part) → joined_parts bytes (front ++ p ∷ []) ≡ joined_parts bytes front ++ part_bytes bytes p
+joined_more bytes front p =
+    ap concat (map-append (part_bytes bytes) front (p ∷ [])) ∙ concat-append (map (part_bytes bytes) front) (part_bytes bytes p ∷ [])
+    ∙ ap (λ l. concat (map (part_bytes bytes) front) ++ l) (concat_one (part_bytes bytes p))

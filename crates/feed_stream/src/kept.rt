@@ -109,9 +109,7 @@ impl Kept {
         ensures passes { IsJoined result.now }
         ensures header { meaning feed_header (fields result.now) ≡ header_of self.now }
     {
-        match &self.header {
-            Header::Whole(part) => &self.bytes[part.start..part.end],
-            Header::Joined(parts) => parts.as_slice(),
-        }
+        let bytes = self.bytes.as_slice();
+        self.header.bytes_in(bytes)
     }
 }
