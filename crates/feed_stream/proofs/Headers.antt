@@ -19,11 +19,6 @@ use Rattle.feed_stream.specs.Parts.{part_bytes, payload_at}
 use Rattle.feed_stream.proofs.Payloads.{ranges_give}
 use Rattle.feed_stream.proofs.Passing.{accepted_passes}
 
--- the ranges of the header's payloads, joined, are the payloads, joined
-pub header_joined : (bytes : List ℕ) (parts : List Part) → map (payload_at bytes) parts ≡ payloads_in 1 (placed_fields bytes)
-    → concat (map (part_bytes bytes) parts) ≡ concat (header_payloads bytes)
-header_joined bytes parts e = ap concat (ranges_give bytes 1 parts e)
-
 header_passes : (bytes : List ℕ) → refusal bytes ≡ None → Passed (header_payloads bytes)
 header_passes bytes accepted = accepted_passes 1 bytes accepted
 

@@ -1,4 +1,5 @@
 pub mod Payloads
+pub mod Layouts
 pub mod Passing
 pub mod Entities
 pub mod Headers

@@ -3,8 +3,7 @@ use Rattle.std.proofs.Common.{◌≡◌, ◌≤◌, ◌+◌, ℕ, Bool, true, fa
 use Rattle.std.proofs.lemmas.List.{map-append}
 use Rattle.std.specs.Prelude.{slice_range}
 use Rattle.std.specs.Option.{option_map}
-use Rattle.std.specs.List.{AllByRecursion, concat}
-use Rattle.std.proofs.lemmas.List.Folds.{concat-append}
+use Rattle.std.specs.List.{AllByRecursion}
 use Rattle.rt_wire.specs.declared.fault.WireFault.{WireFault}
 use Rattle.rt_wire.specs.declared.field.RawField.{RawField}
 use Rattle.rt_wire.specs.declared.field.RawValue.{RawValue}
@@ -91,12 +90,12 @@ payload_bytes : (o : Option (List ℕ)) (base : ℕ) (ps : List Payload) (qs : L
 payload_bytes None base ps qs e = e
 payload_bytes (Some p) base ps qs e = ap (λ (l : List (List ℕ)). p ∷ l) e
 
-payloads_given : (n : ℕ) (l : List (Result PlacedField WireFault)) → map (λ p. p.bytes) (payloads_in n l) ≡ given (in_slot payload_in n) (whole_fields l)
+pub payloads_given : (n : ℕ) (l : List (Result PlacedField WireFault)) → map (λ p. p.bytes) (payloads_in n l) ≡ given (in_slot payload_in n) (whole_fields l)
 payloads_given n [] = refl
 payloads_given n (Ok f ∷ rest) = payload_bytes (in_slot payload_in n f.field) f.body (payloads_in n rest) (given (in_slot payload_in n) (whole_fields rest)) (payloads_given n rest)
 payloads_given n (Err fault ∷ rest) = refl
 
-ranges_bytes : (bytes : List ℕ) (parts : List Part) → map (λ p. p.bytes) (map (payload_at bytes) parts) ≡ map (part_bytes bytes) parts
+pub ranges_bytes : (bytes : List ℕ) (parts : List Part) → map (λ p. p.bytes) (map (payload_at bytes) parts) ≡ map (part_bytes bytes) parts
 ranges_bytes bytes [] = refl
 ranges_bytes bytes (p ∷ ps) = ap (λ (l : List (List ℕ)). part_bytes bytes p ∷ l) (ranges_bytes bytes ps)
 
@@ -114,16 +113,3 @@ ranges_bases bytes (p ∷ ps) = ap (λ (l : List ℕ). p.start ∷ l) (ranges_ba
 pub ranges_begin : (bytes : List ℕ) (n : ℕ) (parts : List Part) → map (payload_at bytes) parts ≡ payloads_in n (placed_fields bytes)
     → map (λ p. p.start) parts ≡ map (λ p. p.base) (payloads_in n (placed_fields bytes))
 ranges_begin bytes n parts e = sym (ranges_bases bytes parts) ∙ ap (map (λ p. p.base)) e
-
--- ---- parts, joined one by one
-
-abbrev pub joined_parts : List ℕ → List Part → List ℕ
-joined_parts bytes parts = concat (map (part_bytes bytes) parts)
-
-concat_one : (p : List ℕ) → concat (p ∷ []) ≡ p
-concat_one p = append-nil p
-
-pub joined_more : (bytes : List ℕ) (front : List Part) (p : Part) → joined_parts bytes (front ++ p ∷ []) ≡ joined_parts bytes front ++ part_bytes bytes p
-joined_more bytes front p =
-    ap concat (map-append (part_bytes bytes) front (p ∷ [])) ∙ concat-append (map (part_bytes bytes) front) (part_bytes bytes p ∷ [])
-    ∙ ap (λ l. concat (map (part_bytes bytes) front) ++ l) (concat_one (part_bytes bytes p))

@@ -1,3 +1,4 @@
 pub mod Payloads
 pub mod Parts
+pub mod Layouts
 pub mod Held

@@ -1,23 +1,30 @@
 //! The payloads of a snapshot's header, taken together.
-ghost use Rattle.std.specs.Prelude.{◌≡◌, IfOk, map};
-ghost use Rattle.std.specs.List.{AllByRecursion, concat};
+ghost use Rattle.std.specs.Prelude.{◌≡◌, ◌++◌, ℕ, List, [], IfOk};
 ghost use Rattle.rt_wire.specs.Fields.{IsBytes};
 ghost use Rattle.feed_stream.specs.Parts.{IsWithin, IsHeader, part_bytes, header_bytes};
 
 use crate::part::Part;
 use std::alloc::{AllocError, Global};
 
-/// The joined payloads of a header.
+/// The payloads of a header, joined.
 #[derive(Drop)]
 pub enum Header {
     /// The header came in one payload, which is this range of the snapshot.
     Whole(Part),
-    /// It came in several, which are joined here.
+    /// It came in several, which are joined here, or in none so far.
     Joined(Vec<u8>),
 }
 
 impl Header {
-    /// The joined payloads, of a header of the snapshot `bytes`.
+    /// A header without payloads.
+    pub fn new(alloc: Global) -> Header
+        ensures within { (bytes : List ℕ) → IsHeader bytes result }
+        ensures joined { (bytes : List ℕ) → header_bytes bytes result ≡ [] }
+    {
+        Header::Joined(Vec::new(alloc))
+    }
+
+    /// The payloads, of a header of the snapshot `bytes`.
     pub fn bytes_in<'a>(&'a self, bytes: &'a [u8]) -> &'a [u8]
         requires { IsHeader bytes.now self.now }
         ensures joined { result.now ≡ header_bytes bytes.now self.now }
@@ -25,23 +32,30 @@ impl Header {
     {
         match self {
             Header::Whole(part) => &bytes[part.start..part.end],
-            Header::Joined(parts) => parts.as_slice(),
+            Header::Joined(joined) => joined.as_slice(),
         }
     }
-}
 
-/// The join of some parts of the bytes. One part alone takes no memory.
-pub fn join_parts(alloc: Global, bytes: &[u8], parts: &[Part]) -> Result<Header, AllocError>
-    requires { AllByRecursion (IsWithin bytes.now) parts.now }
-    ensures within { IfOk result (IsHeader bytes.now) }
-    ensures joined { IfOk result (λ header. header_bytes bytes.now header ≡ concat (map (part_bytes bytes.now) parts.now)) }
-{
-    if let [part] = parts {
-        return Ok(Header::Whole(*part));
+    /// The header with one more payload, which is a part of the snapshot `bytes`. The first takes no memory.
+    pub fn with(self, alloc: Global, bytes: &[u8], part: Part) -> Result<Header, AllocError>
+        requires header { IsHeader bytes.now self }
+        requires part { IsWithin bytes.now part }
+        ensures within { IfOk result (IsHeader bytes.now) }
+        ensures joined { IfOk result (λ header. header_bytes bytes.now header ≡ header_bytes bytes.now self ++ part_bytes bytes.now part) }
+    {
+        let payload = &bytes[part.start..part.end];
+        match self {
+            Header::Whole(first) => {
+                let mut joined = Vec::from_slice(alloc, &bytes[first.start..first.end])?;
+                joined.extend_from_slice(payload)?;
+                Ok(Header::Joined(joined))
+            }
+            Header::Joined(joined) if joined.is_empty() => Ok(Header::Whole(part)),
+            Header::Joined(joined) => {
+                let mut joined = joined;
+                joined.extend_from_slice(payload)?;
+                Ok(Header::Joined(joined))
+            }
+        }
     }
-    let mut joined = Vec::new(alloc);
-    for part in parts {
-        joined.extend_from_slice(&bytes[part.start..part.end])?;
-    }
-    Ok(Header::Joined(joined))
 }

@@ -9,17 +9,10 @@ ghost use Rattle.feed_codec.specs.Parts.{IsJoined};
 ghost use Rattle.feed_stream.specs.Payloads.{entity_bases, header_payloads};
 ghost use Rattle.feed_stream.specs.Parts.{IsWithin, part_bytes};
 
-use crate::header::{Header, join_parts};
+use crate::layout::Layout;
 use crate::part::Part;
-use crate::parts::parts_of;
 use std::alloc::{AllocError, Global};
 use std::marker::Model;
-
-/// The number of the header's slot. (GTFS Realtime Reference 2.0, "FeedMessage".)
-const HEADER: u32 = 1;
-
-/// The number of the entities' slot. (GTFS Realtime Reference 2.0, "FeedMessage".)
-const ENTITY: u32 = 2;
 
 /// An accepted snapshot, which contracts see as its bytes.
 ///
@@ -27,8 +20,7 @@ const ENTITY: u32 = 2;
 #[derive(Drop)]
 pub struct Kept {
     bytes: Vec<u8>,
-    header: Header,
-    entities: Vec<Part>,
+    layout: Layout,
 }
 
 impl Model for Kept {
@@ -49,14 +41,8 @@ impl Kept {
         requires { refusal bytes.items ≡ None }
         ensures { IfOk result (λ kept. kept ≡ bytes.items) }
     {
-        let header_parts = parts_of(alloc, &bytes, HEADER)?;
-        let header = join_parts(alloc, &bytes, &header_parts)?;
-        let entities = parts_of(alloc, &bytes, ENTITY)?;
-        Ok(Kept {
-            bytes,
-            header,
-            entities,
-        })
+        let layout = Layout::of(alloc, &bytes)?;
+        Ok(Kept { bytes, layout })
     }
 
     /// The bytes of the snapshot, which is accepted.
@@ -71,7 +57,7 @@ impl Kept {
     pub fn len(&self) -> usize
         ensures { result ≡ length (entity_payloads self.now) }
     {
-        self.entities.len()
+        self.layout.entities.len()
     }
 
     /// The payload of entity `i`, counted from 0, which `decode_entity` takes. (GTFS Realtime Reference 2.0, "FeedEntity".)
@@ -99,7 +85,7 @@ impl Kept {
         ensures payload { Some (part_bytes self.now result) ≡ slice_get (entity_payloads self.now) i }
         ensures base { Some result.start ≡ slice_get (entity_bases self.now) i }
     {
-        self.entities[i]
+        self.layout.entities[i]
     }
 
     /// The payloads of the header, joined in their order, which `decode_header` takes.
@@ -110,6 +96,6 @@ impl Kept {
         ensures header { meaning feed_header (fields result.now) ≡ header_of self.now }
     {
         let bytes = self.bytes.as_slice();
-        self.header.bytes_in(bytes)
+        self.layout.header.bytes_in(bytes)
     }
 }

@@ -7,14 +7,14 @@
 //! where that came in one payload, are ranges of them, so each is handed out without memory, in the form that the codec
 //! decodes.
 //!
-//! From the bottom up: `part` is a range, `parts` finds the payloads of a slot, `header` holds the header's payloads
-//! joined, `kept` and `splitter` are the two types.
+//! From the bottom up: `part` is a range, `header` holds the header's payloads joined, `layout` finds the header and the
+//! entities in the bytes, `kept` and `splitter` are the two types.
 #![tactic(auto)]
 
 mod header;
 mod kept;
+mod layout;
 mod part;
-mod parts;
 mod splitter;
 
 pub use kept::Kept;

@@ -11,13 +11,13 @@ pub returns-clause-passes : goal.returns-clause-passes
 returns-clause-passes c =
     let bytes = c.self.inside.bytes.items in
     let joined : c.bytes_in.result.now ≡ concat (header_payloads bytes) =
-    c.bytes_in.ensures.joined ∙ ap (λ (b : List ℕ). header_bytes b c.self.inside.header) c.as_slice-bytes.ensures.value ∙ c.self.invariant.header in
+    c.bytes_in.ensures.joined ∙ ap (λ (b : List ℕ). header_bytes b c.self.inside.layout.header) c.as_slice-bytes.ensures.value ∙ c.self.invariant.layout.header in
     is_joined bytes c.bytes_in.result.now c.self.invariant.accepted joined
 
 pub returns-clause-header : goal.returns-clause-header
 returns-clause-header c =
     let bytes = c.self.inside.bytes.items in
     let joined : c.bytes_in.result.now ≡ concat (header_payloads bytes) =
-    c.bytes_in.ensures.joined ∙ ap (λ (b : List ℕ). header_bytes b c.self.inside.header) c.as_slice-bytes.ensures.value ∙ c.self.invariant.header in
+    c.bytes_in.ensures.joined ∙ ap (λ (b : List ℕ). header_bytes b c.self.inside.layout.header) c.as_slice-bytes.ensures.value ∙ c.self.invariant.layout.header in
     let held : IsBytes bytes = subst (λ (b : List ℕ). IsBytes b) c.as_slice-bytes.ensures.value c.bytes_in.ensures.bytes in
     header_means bytes c.bytes_in.result.now held c.self.invariant.accepted joined ∙ ap (λ (b : List ℕ). header_of b) c.self.view_is

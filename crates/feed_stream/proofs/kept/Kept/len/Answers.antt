@@ -5,5 +5,5 @@ use Rattle.feed_stream.proofs.kept.Kept.len.Goals as goal
 
 pub returns : goal.returns
 returns c =
-    c.len.ensures ∙ c.self.inside.entities.ok.0 ∙ entity_count c.self.inside.bytes.items c.self.inside.entities.items c.self.invariant.entities
+    c.len.ensures ∙ c.self.inside.layout.entities.ok.0 ∙ entity_count c.self.inside.bytes.items c.self.inside.layout.entities.items c.self.invariant.layout.entities
     ∙ ap (λ (b : List ℕ). length (entity_payloads b)) c.self.view_is
