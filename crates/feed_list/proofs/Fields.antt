@@ -1,5 +1,5 @@
 -- The three fields of a row.
-use Rattle.std.proofs.Common.{◌≡◌, ◌≢◌, ◌+◌, ℕ, zero, suc, List, [], ◌∷◌, length, Option, Some, None, refl, ap, arith}
+use Rattle.std.proofs.Common.{◌≡◌, ◌≢◌, ◌+◌, ◌<◌, ℕ, zero, suc, List, [], ◌∷◌, length, Option, Some, None, refl, ap, arith}
 use Rattle.csv.specs.Records.{field_at}
 use Rattle.timetable.specs.Records.{Record}
 use Rattle.feed_list.specs.Rows.{Fields, fields_in}
@@ -14,8 +14,23 @@ unfolding field_at
 fields_there [] feed moment path n a b c = absurd cc
 fields_there (x ∷ []) feed moment path n a b c = absurd cc
 fields_there (x ∷ y ∷ []) feed moment path n a b c = absurd cc
-fields_there (x ∷ y ∷ z ∷ []) feed moment path n a b c = three x y z feed moment path cc cc cc
+fields_there (x ∷ y ∷ z ∷ []) feed moment path n a b c =
+    let same_feed : x ≡ feed = cc in
+    let same_moment : y ≡ moment = cc in
+    let same_path : z ≡ path = cc in
+    three x y z feed moment path same_feed same_moment same_path
 fields_there (x ∷ y ∷ z ∷ w ∷ xs) feed moment path n a b c = absurd (omega (arith, n))
+
+-- each of three fields is there
+pub field_missing : (xs : Record) (i : ℕ) → length xs ≡ 3 → i < 3 → None ≡ field_at xs i → ⊥
+unfolding field_at
+field_missing [] i n lt e = cc
+field_missing (x ∷ xs) zero n lt e = cc
+field_missing (x ∷ []) (suc i) n lt e = cc
+field_missing (x ∷ y ∷ xs) (suc zero) n lt e = cc
+field_missing (x ∷ y ∷ []) (suc (suc i)) n lt e = cc
+field_missing (x ∷ y ∷ z ∷ xs) (suc (suc zero)) n lt e = cc
+field_missing (x ∷ y ∷ z ∷ xs) (suc (suc (suc i))) n lt e = omega (arith, lt)
 
 -- a record of another number of fields is no row
 pub not_three : (xs : Record) → length xs ≢ 3 → fields_in xs ≡ None

@@ -1,3 +1,5 @@
-pub mod Lists
-pub mod ListRows
 pub mod Fields
+pub mod ListRows
+pub mod Lists
+pub mod Numbers
+pub mod ReadFaults

@@ -1,5 +1,5 @@
 -- Rows of a list, one after the other.
-use Rattle.std.proofs.Common.{◌≡◌, ◌≤◌, ◌<◌, ◌+◌, ◌^◌, ℕ, Bool, true, false, cond, List, [], ◌∷◌, ◌++◌, append_assoc, append_nil, length, Option, Some, None, Result, Ok, Err, refl, sym, ap, subst, ◌∙◌, arith, nat_lt}
+use Rattle.std.proofs.Common.{◌≡◌, ◌≤◌, ◌<◌, ◌+◌, ◌^◌, ℕ, suc, Bool, true, false, cond, List, [], ◌∷◌, ◌++◌, append_assoc, append-nil, length, Option, Some, None, Result, Ok, Err, refl, sym, ap, subst, ◌∙◌, arith, nat_lt}
 use Rattle.std.specs.Prelude.{option_and_then, IfOk}
 use Rattle.std.specs.List.{AllByRecursion}
 use Rattle.std.proofs.lemmas.Bool.Decides.{nat_tests}
@@ -7,12 +7,12 @@ use Rattle.timetable.specs.Cells.{ok_or, then_with}
 use Rattle.timetable.specs.Fields.{text_of}
 use Rattle.timetable.specs.Records.{Record}
 use Rattle.feed_list.specs.declared.column.Column.{Column}
-use Rattle.feed_list.specs.declared.column.Column.TheVariants.{Feed}
+use Rattle.feed_list.specs.declared.column.Column.TheVariants.{Feed, Moment}
 use Rattle.feed_list.specs.declared.fault.ListFault.{ListFault}
 use Rattle.feed_list.specs.declared.fault.ListFault.TheVariants.{BadValue, NotText, NotThreeFields, TooLarge}
 use Rattle.feed_list.specs.declared.row.ListRow.{ListRow}
-use Rattle.feed_list.specs.Lists.{IsFollowed, list_of, row_limit, rows_from, with_front}
-use Rattle.feed_list.specs.Rows.{Fields, fields_in, row_of, text_in, value_in}
+use Rattle.feed_list.specs.Lists.{IsWithinLimits, list_of, row_limit, rows_from, with_front}
+use Rattle.feed_list.specs.Rows.{Fields, fields_in, path_in, row_of, text_in, value_in}
 use Rattle.feed_list.specs.Values.{below, feed_of, number_of}
 
 -- ---- rows that are read
@@ -33,7 +33,7 @@ pub row_refused : (front : List ListRow) (number : ℕ) (fields : Record) (recor
 row_refused front number fields records fault e = ap (λ r. with_front front (then_with r (λ row. with_front (row ∷ []) (rows_from (number + 1) records)))) e
 
 pub no_rows : (front : List ListRow) (number : ℕ) → with_front front (rows_from number []) ≡ Ok front
-no_rows front number = ap (λ (l : List ListRow). Ok l) (append_nil front)
+no_rows front number = ap (λ (l : List ListRow). Ok l) (append-nil front)
 
 pub rows_before : (r : Result (List ListRow) ListFault) → with_front [] r ≡ r
 rows_before (Ok rows) = refl
@@ -44,10 +44,6 @@ rows_before (Err fault) = refl
 pub then_ok : {A B E : Type 0} (r : Result A E) (k : A → Result B E) (b : B) → then_with r k ≡ Ok b → (a : A) × (r ≡ Ok a) × (k a ≡ Ok b)
 then_ok (Ok a) k b e = (a, refl, e)
 then_ok (Err x) k b e = absurd cc
-
-pub or_ok : {A E : Type 0} (o : Option A) (e : E) (a : A) → ok_or o e ≡ Ok a → o ≡ Some a
-or_ok (Some x) e a h = let same : x ≡ a = cc in ap (λ (y : _). Some y) same
-or_ok None e a h = absurd cc
 
 pub front_ok : (front : List ListRow) (r : Result (List ListRow) ListFault) (rows : List ListRow) → with_front front r ≡ Ok rows
     → (rest : List ListRow) × (r ≡ Ok rest) × (front ++ rest ≡ rows)
@@ -72,23 +68,37 @@ feed_below : (o : Option ℕ) (m : ℕ) → option_and_then (below 16) o ≡ Som
 feed_below None m e = absurd cc
 feed_below (Some n) m e = below_is 16 n m (nat_lt n 16) refl e
 
-feed_in_range : (number : ℕ) (field : List ℕ) (feed : ℕ) → value_in feed_of number Feed field ≡ Ok feed → feed < 16
-feed_in_range number field feed e =
-    let h = then_ok (text_in number Feed field) (λ text. ok_or (feed_of text) (BadValue number Feed)) feed e in
-    feed_below (number_of h.0) feed (or_ok (feed_of h.0) (BadValue number Feed) feed h.2)
+small_or : (o : Option ℕ) (e : ListFault) → ((n : ℕ) → o ≡ Some n → n < 16) → IfOk (ok_or o e) (λ n. n < 16)
+small_or None e h = tt
+small_or (Some n) e h = h n refl
 
-feed_of_row : Result ListRow ListFault → ℕ
+feed_small : (r : Result (List ℕ) ListFault) (e : ListFault) → IfOk (then_with r (λ text. ok_or (feed_of text) e)) (λ n. n < 16)
+feed_small (Ok text) e = small_or (feed_of text) e (feed_below (number_of text))
+feed_small (Err x) e = tt
+
+abbrev feed_of_row : Result ListRow ListFault → ℕ
 feed_of_row (Ok row) = row.feed
 feed_of_row (Err fault) = 0
 
+from_values : (a b : Result ℕ ListFault) (c : Result (List ℕ) ListFault) (row : ListRow) → IfOk a (λ n. n < 16)
+    → then_with a (λ feed. then_with b (λ moment. then_with c (λ path. Ok (record { feed = feed; moment = moment; path = path })))) ≡ Ok row → row.feed < 16
+from_values (Err x) b c row small e = absurd cc
+from_values (Ok n) (Err x) c row small e = absurd cc
+from_values (Ok n) (Ok m) (Err x) row small e = absurd cc
+from_values (Ok n) (Ok m) (Ok p) row small e = subst (λ k. k < 16) (ap feed_of_row e) small
+
+from_fields : (number : ℕ) (r : Result Fields ListFault) (row : ListRow)
+    → then_with r (λ fields.
+    then_with (value_in feed_of number Feed fields.feed) (λ feed.
+    then_with (value_in number_of number Moment fields.moment) (λ moment.
+    then_with (path_in number fields.path) (λ path.
+    Ok (record { feed = feed; moment = moment; path = path }))))) ≡ Ok row → row.feed < 16
+from_fields number (Ok f) row e =
+    from_values (value_in feed_of number Feed f.feed) (value_in number_of number Moment f.moment) (path_in number f.path) row (feed_small (text_in number Feed f.feed) (BadValue number Feed)) e
+from_fields number (Err x) row e = absurd cc
+
 row_feed : (number : ℕ) (fields : Record) (row : ListRow) → row_of number fields ≡ Ok row → row.feed < 16
-row_feed number fields row e =
-    let h = then_ok (ok_or (fields_in fields) (NotThreeFields number)) _ row e in
-    let k = then_ok (value_in feed_of number Feed h.0.feed) _ row h.2 in
-    let m = then_ok _ _ row k.2 in
-    let p = then_ok _ _ row m.2 in
-    let same : k.0 ≡ row.feed = ap feed_of_row p.2 in
-    subst (λ n. n < 16) same (feed_in_range number h.0.feed k.0 k.1)
+row_feed number fields row e = from_fields number (ok_or (fields_in fields) (NotThreeFields number)) row e
 
 rows_feeds : (number : ℕ) (records : List Record) (rows : List ListRow) → rows_from number records ≡ Ok rows → AllByRecursion (λ row. row.feed < 16) rows
 rows_feeds number [] rows e = let same : [] ≡ rows = cc in subst (λ (l : List ListRow). AllByRecursion (λ row. row.feed < 16) l) same tt
@@ -100,7 +110,7 @@ pub rows_many : (number : ℕ) (records : List Record) (rows : List ListRow) →
 rows_many number [] rows e = let same : [] ≡ rows = cc in ap (λ (l : List ListRow). length l) (sym same)
 rows_many number (fields ∷ records) rows e =
     let h = rows_ok number fields records rows e in
-    ap (λ (l : List ListRow). length l) (sym h.4) ∙ ap (λ n. n + 1) (rows_many (number + 1) records h.1 h.3)
+    ap (λ (l : List ListRow). length l) (sym h.4) ∙ ap suc (rows_many (number + 1) records h.1 h.3)
 
 -- ---- an accepted list
 
@@ -114,11 +124,7 @@ list_ok records rows e = by (nat_lt row_limit (length records)) refl e
     by true t h = absurd cc
     by false t h = (few_records records t, h)
 
-followed : (records : List Record) (rows : List ListRow) → list_of records ≡ Ok rows → IsFollowed rows
-followed records rows e =
-    let h = list_ok records rows e in
-    record { few = rw (rows_many 1 records rows h.1) h.0; feeds = rows_feeds 1 records rows h.1 }
-
-pub answer_followed : (records : List Record) (r : Result (List ListRow) ListFault) → IfOk r (λ list. list_of records ≡ Ok list) → IfOk r IsFollowed
-answer_followed records (Ok rows) e = followed records rows e
-answer_followed records (Err fault) e = tt
+-- what is read of few records is within the limits
+pub read_within_limits : (records : List Record) (r : Result (List ListRow) ListFault) → length records ≤ row_limit → IfOk r (λ list. rows_from 1 records ≡ Ok list) → IfOk r IsWithinLimits
+read_within_limits records (Ok rows) few e = record { few = rw (rows_many 1 records rows e) few; feeds = rows_feeds 1 records rows e }
+read_within_limits records (Err fault) few e = tt

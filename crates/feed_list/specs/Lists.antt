@@ -34,7 +34,7 @@ abbrev pub list_in : Option (List ℕ) → Result (List ListRow) ListFault
 list_in None = Err MissingFile
 list_in (Some bytes) = if nat_lt byte_limit (length bytes) then Err TooLarge else list_of (records_of bytes)
 
--- what holds of every list that is accepted
-pub record IsFollowed (rows : List ListRow) : Type 0 where
+-- a list that can be followed has few rows, each of a feed that there may be
+pub record IsWithinLimits (rows : List ListRow) : Type 0 where
   pub few : length rows ≤ row_limit
   pub feeds : AllByRecursion (λ row. row.feed < 16) rows

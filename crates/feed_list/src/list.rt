@@ -3,7 +3,7 @@ ghost use Rattle.std.specs.Prelude.{◌≡◌, ◌≢◌, ◌≤◌, ◌<◌, le
 ghost use Rattle.std.specs.FinMap.{get};
 ghost use Rattle.rt_outside.specs.Causes.{Rose};
 ghost use Rattle.rt_outside.specs.Store.{contents_told};
-ghost use Rattle.feed_list.specs.Lists.{list_in, IsFollowed};
+ghost use Rattle.feed_list.specs.Lists.{list_in, IsWithinLimits};
 ghost use Rattle.feed_list.specs.declared.fault.ListFault.TheVariants as fault;
 
 use crate::fault::ListFault;
@@ -29,7 +29,7 @@ pub fn read_list<F: Files>(
     ensures ok { IfSome (contents_told (F.state files.old).told) (λ held. IfOk result (λ list. list_in (get held name.now) ≡ Ok list)) }
     ensures err { IfSome (contents_told (F.state files.old).told) (λ held. IfErr result (λ e.
         e ≢ fault.ReadFault → e ≢ fault.Memory → list_in (get held name.now) ≡ Err e)) }
-    ensures followed { IfOk result IsFollowed }
+    ensures limits { IfOk result IsWithinLimits }
     ensures contents { contents_told (F.state files.new).told ≡ contents_told (F.state files.old).told }
     ensures asked { IfSome (F.state files.new).asked (λ last. last ≡ name.now) }
     ensures later { (F.state files.old).faults ≤ (F.state files.new).faults }

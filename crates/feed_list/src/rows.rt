@@ -2,7 +2,7 @@
 ghost use Rattle.std.specs.Prelude.{◌≡◌, ◌≢◌, ◌≤◌, ◌<◌, ◌^◌, ◌++◌, ◌∷◌, [], length, nat_lt, Ok, Err, IfOk, IfErr, OnOk};
 ghost use Rattle.std.specs.List.{AllByRecursion};
 ghost use Rattle.timetable.specs.Records.{records_of};
-ghost use Rattle.feed_list.specs.Lists.{list_of, row_limit, rows_from, IsFollowed};
+ghost use Rattle.feed_list.specs.Lists.{list_of, row_limit, rows_from, IsWithinLimits};
 ghost use Rattle.feed_list.specs.declared.fault.ListFault.TheVariants as fault;
 
 use crate::fault::ListFault;
@@ -18,7 +18,7 @@ const ROW_LIMIT: usize = 1_000_000;
 pub fn list_of(alloc: Global, bytes: &[u8]) -> Result<Items<ListRow>, ListFault>
     ensures ok { IfOk result (λ list. list_of (records_of bytes.now) ≡ Ok list) }
     ensures err { IfErr result (λ e. e ≢ fault.Memory → list_of (records_of bytes.now) ≡ Err e) }
-    ensures followed { IfOk result IsFollowed }
+    ensures limits { IfOk result IsWithinLimits }
 {
     if has_many_rows(alloc, bytes)? {
         return Err(ListFault::TooLarge);

@@ -1,8 +1,7 @@
 -- The header of a kept snapshot.
-use Rattle.std.proofs.Common.{◌≡◌, ℕ, List, map, None, sym, ap, ◌∙◌}
+use Rattle.std.proofs.Common.{◌≡◌, ℕ, List, None, sym, ap, ◌∙◌}
 use Rattle.std.specs.List.{AllByRecursion, concat}
 use Rattle.rt_wire.specs.Fields.{IsBytes}
-use Rattle.rt_wire.specs.Placed.{placed_fields}
 use Rattle.feed_values.specs.Messages.{feed_header}
 use Rattle.feed_values.specs.Meaning.{fields, meaning}
 use Rattle.feed_values.specs.Accepted.{header_fields}
@@ -13,10 +12,7 @@ use Rattle.feed_codec.specs.Parts.{Passed, IsJoined}
 use Rattle.feed_codec.proofs.Bytes.{bytes_concat, fields_bytes, given_bytes}
 use Rattle.feed_codec.proofs.Joining.{parts_decide}
 use Rattle.feed_codec.proofs.SnapshotFaults.{refusal_is_first}
-use Rattle.feed_stream.specs.declared.part.Part.{Part}
-use Rattle.feed_stream.specs.Payloads.{payloads_in, header_payloads}
-use Rattle.feed_stream.specs.Parts.{part_bytes, payload_at}
-use Rattle.feed_stream.proofs.Payloads.{ranges_give}
+use Rattle.feed_stream.specs.Payloads.{header_payloads}
 use Rattle.feed_stream.proofs.Passing.{accepted_passes}
 
 header_passes : (bytes : List ℕ) → refusal bytes ≡ None → Passed (header_payloads bytes)
