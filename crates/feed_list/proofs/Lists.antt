@@ -1,15 +1,13 @@
 -- Rows of a list, one after the other.
-use Rattle.std.proofs.Common.{◌≡◌, ◌≤◌, ◌<◌, ◌+◌, ◌^◌, ℕ, suc, Bool, true, false, cond, List, [], ◌∷◌, ◌++◌, append_assoc, append-nil, length, Option, Some, None, Result, Ok, Err, refl, sym, ap, subst, ◌∙◌, arith, nat_lt}
+use Rattle.std.proofs.Common.{◌≡◌, ◌≤◌, ◌<◌, ◌+◌, ℕ, suc, Bool, true, false, cond, List, [], ◌∷◌, ◌++◌, append_assoc, append-nil, length, Option, Some, None, Result, Ok, Err, refl, sym, ap, subst, ◌∙◌, arith, nat_lt}
 use Rattle.std.specs.Prelude.{option_and_then, IfOk}
 use Rattle.std.specs.List.{AllByRecursion}
 use Rattle.std.proofs.lemmas.Bool.Decides.{nat_tests}
 use Rattle.timetable.specs.Cells.{ok_or, then_with}
-use Rattle.timetable.specs.Fields.{text_of}
 use Rattle.timetable.specs.Records.{Record}
-use Rattle.feed_list.specs.declared.column.Column.{Column}
 use Rattle.feed_list.specs.declared.column.Column.TheVariants.{Feed, Moment}
 use Rattle.feed_list.specs.declared.fault.ListFault.{ListFault}
-use Rattle.feed_list.specs.declared.fault.ListFault.TheVariants.{BadValue, NotText, NotThreeFields, TooLarge}
+use Rattle.feed_list.specs.declared.fault.ListFault.TheVariants.{BadValue, NotThreeFields, TooLarge}
 use Rattle.feed_list.specs.declared.row.ListRow.{ListRow}
 use Rattle.feed_list.specs.Lists.{IsWithinLimits, list_of, row_limit, rows_from, with_front}
 use Rattle.feed_list.specs.Rows.{Fields, fields_in, path_in, row_of, text_in, value_in}

@@ -1,5 +1,5 @@
 -- What `parse` reads of a text of digits.
-use Rattle.std.proofs.Common.{◌≡◌, ℕ, ◌<◌, ◌≤◌, ◌^◌, List, length, Bool, true, false, cond, ◌&&◌, nat_le, nat_lt, Option, Some, None, refl, ap, ◌∙◌, arith, rules, Result, Ok, Err}
+use Rattle.std.proofs.Common.{◌≡◌, ℕ, ◌<◌, ◌≤◌, ◌^◌, List, length, Bool, true, false, cond, ◌&&◌, nat_le, nat_lt, Some, None, refl, ap, arith, rules, Result, Ok, Err}
 use Rattle.std.specs.Prelude.{option_and_then}
 use Rattle.std.specs.Char.{is_ascii_digit}
 use Rattle.std.specs.List.{list_all}

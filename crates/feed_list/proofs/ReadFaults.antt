@@ -7,10 +7,10 @@ use Rattle.timetable.specs.Records.{Record}
 use Rattle.feed_list.specs.declared.column.Column.{Column}
 use Rattle.feed_list.specs.declared.column.Column.TheVariants.{Feed, Moment, Path}
 use Rattle.feed_list.specs.declared.fault.ListFault.{ListFault}
-use Rattle.feed_list.specs.declared.fault.ListFault.TheVariants.{BadValue, Memory, NotText, NotThreeFields, ReadFault, TooLarge}
+use Rattle.feed_list.specs.declared.fault.ListFault.TheVariants.{BadValue, Memory, NotText, NotThreeFields, ReadFault}
 use Rattle.feed_list.specs.declared.row.ListRow.{ListRow}
 use Rattle.feed_list.specs.Lists.{list_of}
-use Rattle.feed_list.specs.Rows.{Fields, fields_in, path_in, row_of, text_in, value_in}
+use Rattle.feed_list.specs.Rows.{Fields, fields_in, path_in, value_in}
 use Rattle.feed_list.specs.Values.{feed_of, number_of, path_of}
 use Rattle.feed_list.proofs.ListRows.{list_follows_its_rows}
 

@@ -1,5 +1,5 @@
 -- What a list holds, in words of its rows.
-use Rattle.std.specs.Prelude.{◌≡◌, ◌⊎◌, ◌≤◌, ◌<◌, ℕ, ◌+◌, List, length, Some, Result, Ok, Err, IsOk, slice_get}
+use Rattle.std.specs.Prelude.{◌≡◌, ◌⊎◌, ◌≤◌, ◌<◌, ℕ, ◌+◌, List, length, Some, Ok, Err, IsOk, slice_get}
 use Rattle.timetable.specs.Records.{Record}
 use Rattle.feed_list.specs.Lists.{list_of, row_limit}
 use Rattle.feed_list.specs.Rows.{row_of}

@@ -1,5 +1,5 @@
 -- A row of a list: a feed, a moment and the path of a snapshot. (This profile.)
-use Rattle.std.specs.Prelude.{ℕ, List, [], ◌∷◌, Option, Some, None, Result, Ok, Err, if◌then◌else◌}
+use Rattle.std.specs.Prelude.{ℕ, List, [], ◌∷◌, Option, Some, None, Result, Ok}
 use Rattle.timetable.specs.Cells.{ok_or, then_with}
 use Rattle.timetable.specs.Fields.{text_of}
 use Rattle.timetable.specs.Records.{Record}

@@ -1,6 +1,6 @@
-use Rattle.std.proofs.Common.{◌≡◌, ◌<◌, ◌∙◌, ℕ, length, sym, arith}
+use Rattle.std.proofs.Common.{◌∙◌, sym, arith}
 use Rattle.csv.specs.Records.{fields_of}
-use Rattle.feed_list.proofs.Fields.{field_missing, fields_there, not_three}
+use Rattle.feed_list.proofs.Fields.{field_missing, fields_there}
 use Rattle.feed_list.proofs.row.fields_in.Goals as goal
 
 pub returns-in_err-get : goal.returns-in_err-get

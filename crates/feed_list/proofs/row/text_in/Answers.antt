@@ -1,4 +1,4 @@
-use Rattle.std.proofs.Common.{◌≡◌, List, ℕ, Ok, Err, Bool, true, false, refl, ap}
+use Rattle.std.proofs.Common.{◌≡◌, List, ℕ, Ok, Bool, true, false, refl, ap}
 use Rattle.std.specs.Str.{IsUtf8, is_utf8}
 use Rattle.std.proofs.lemmas.Str.{IsUtf8-from_is_utf8, is_utf8-from_IsUtf8}
 use Rattle.feed_list.proofs.row.text_in.Goals as goal

@@ -1,4 +1,4 @@
-use Rattle.std.proofs.Common.{◌≡◌, ◌≤◌, ◌+◌, length}
+use Rattle.std.proofs.Common.{◌≡◌, ◌+◌, length}
 use Rattle.timetable.specs.Records.{records_of}
 use Rattle.feed_list.proofs.rows.has_many_rows.Given as goal
 
