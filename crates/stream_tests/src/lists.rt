@@ -73,14 +73,9 @@ fn a_list_is_read_row_by_row(rt: HostRuntime) -> Result<(), Fail> {
 #[test]
 fn a_list_of_too_many_rows_is_refused_before_its_rows(rt: HostRuntime) -> Result<(), Fail> {
     let mut bytes = Vec::new(rt.alloc());
-    for _ in 0..1_000_000 {
+    for _ in 0..1_000_001 {
         bytes.extend_from_slice(b"0\n")?;
     }
-    assert_eq!(rt;
-        rows_of(rt.alloc(), &bytes)?,
-        Err(ListFault::NotThreeFields(1))
-    );
-    bytes.extend_from_slice(b"0\n")?;
     assert_eq!(rt; rows_of(rt.alloc(), &bytes)?, Err(ListFault::TooLarge));
     Ok(())
 }

@@ -185,11 +185,11 @@ fn groups_nest_a_hundred_deep_however_they_are_cut(rt: HostRuntime) -> Result<()
 fn the_parts_of_a_kept_snapshot_are_handed_out(rt: HostRuntime) -> Result<(), Fail> {
     let kept = in_two_pieces(rt.alloc(), &SPLIT_HEADER, &[])?;
     assert_eq!(rt; kept.len(), 0);
-    assert_eq!(rt; kept.header_parts(), &JOINED_HEADER);
+    assert_eq!(rt; kept.header_parts(), JOINED_HEADER.as_slice());
     let bytes = behind_header(rt.alloc(), BEHIND_HEADER[1].0)?;
     let kept = in_one_piece(rt.alloc(), &bytes)?;
     assert_eq!(rt; kept.len(), 1);
-    assert_eq!(rt; kept.entity(0), &SPLIT_TRIP);
+    assert_eq!(rt; kept.entity(0), SPLIT_TRIP.as_slice());
     assert_eq!(rt; kept.entity_base(0), 17);
     assert_eq!(rt; kept.header_parts(), &HEADER[2..]);
     Ok(())
