@@ -2,3 +2,4 @@ pub mod Payloads
 pub mod Parts
 pub mod Layouts
 pub mod Held
+pub mod Laws

@@ -8,14 +8,17 @@
 //! decodes.
 //!
 //! From the bottom up: `part` is a range, `header` holds the header's payloads joined, `layout` finds the header and the
-//! entities in the bytes, `kept` and `splitter` are the two types.
+//! entities in the bytes, `kept` and `splitter` are the two types. `laws` says where an entity stands, in words of the snapshot's
+//! fields.
 #![tactic(auto)]
 
 mod header;
 mod kept;
+mod laws;
 mod layout;
 mod part;
 mod splitter;
 
 pub use kept::Kept;
+pub use laws::entities_follow_fields;
 pub use splitter::Splitter;
