@@ -1,6 +1,5 @@
 //! The payloads of a snapshot's header, taken together.
 ghost use Rattle.std.specs.Prelude.{◌≡◌, ◌++◌, ℕ, List, [], IfOk};
-ghost use Rattle.rt_wire.specs.Fields.{IsBytes};
 ghost use Rattle.feed_stream.specs.Parts.{IsWithin, IsHeader, part_bytes, header_bytes};
 
 use crate::part::Part;
@@ -27,8 +26,7 @@ impl Header {
     /// The payloads, of a header of the snapshot `bytes`.
     pub fn bytes_in<'a>(&'a self, bytes: &'a [u8]) -> &'a [u8]
         requires { IsHeader bytes.now self.now }
-        ensures joined { result.now ≡ header_bytes bytes.now self.now }
-        ensures bytes { IsBytes bytes.now }
+        ensures { result.now ≡ header_bytes bytes.now self.now }
     {
         match self {
             Header::Whole(part) => &bytes[part.start..part.end],

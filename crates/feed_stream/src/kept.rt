@@ -1,6 +1,8 @@
 //! An accepted snapshot.
 ghost use Rattle.std.specs.Prelude.{◌≡◌, ◌<◌, length, take, drop, Some, None, IfSome, IfOk, slice_get};
 ghost use Rattle.std.specs.List.{concat};
+ghost use Rattle.rt_wire.specs.Fields.{IsBytes};
+ghost use Rattle.feed_values.specs.Accepted.{IsAccepted};
 ghost use Rattle.feed_values.specs.Messages.{feed_header};
 ghost use Rattle.feed_values.specs.Meaning.{fields, meaning};
 ghost use Rattle.feed_values.specs.Snapshot.{entity_payloads, header_of};
@@ -49,6 +51,7 @@ impl Kept {
     pub fn bytes(&self) -> &[u8]
         ensures bytes { result.now ≡ self.now }
         ensures accepted { refusal self.now ≡ None }
+        ensures snapshot { IsBytes self.now × IsAccepted self.now }
     {
         self.bytes.as_slice()
     }
@@ -95,7 +98,6 @@ impl Kept {
         ensures passes { IsJoined result.now }
         ensures header { meaning feed_header (fields result.now) ≡ header_of self.now }
     {
-        let bytes = self.bytes.as_slice();
-        self.layout.header.bytes_in(bytes)
+        self.layout.header.bytes_in(&self.bytes)
     }
 }

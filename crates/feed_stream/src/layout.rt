@@ -1,5 +1,6 @@
 //! Where the header and the entities of a snapshot lie in its bytes.
 ghost use Rattle.std.specs.Prelude.{IfOk};
+ghost use Rattle.rt_wire.specs.Fields.{IsBytes};
 ghost use Rattle.rt_wire.specs.Placed.{LiesIn, placed_field};
 ghost use Rattle.feed_stream.specs.Parts.{IsHeader};
 ghost use Rattle.feed_stream.specs.Layouts.{IsLayout, TakesField};
@@ -25,7 +26,8 @@ pub struct Layout {
 impl Layout {
     /// The layout of some bytes, up to their first fault.
     pub fn of(alloc: Global, bytes: &[u8]) -> Result<Layout, AllocError>
-        ensures { IfOk result (IsLayout bytes.now) }
+        ensures layout { IfOk result (IsLayout bytes.now) }
+        ensures bytes { IsBytes bytes.now }
     {
         let mut layout = Layout {
             header: Header::new(alloc),

@@ -1,6 +1,5 @@
-use Rattle.std.proofs.Common.{◌≡◌, ℕ, List, subst, ap, ◌∙◌}
+use Rattle.std.proofs.Common.{List, ap, ℕ, ◌∙◌, ◌≡◌}
 use Rattle.std.specs.List.{concat}
-use Rattle.rt_wire.specs.Fields.{IsBytes}
 use Rattle.feed_values.specs.Snapshot.{header_of}
 use Rattle.feed_stream.specs.Parts.{header_bytes}
 use Rattle.feed_stream.specs.Payloads.{header_payloads}
@@ -11,13 +10,12 @@ pub returns-clause-passes : goal.returns-clause-passes
 returns-clause-passes c =
     let bytes = c.self.inside.bytes.items in
     let joined : c.bytes_in.result.now ≡ concat (header_payloads bytes) =
-    c.bytes_in.ensures.joined ∙ ap (λ (b : List ℕ). header_bytes b c.self.inside.layout.header) c.as_slice-bytes.ensures.value ∙ c.self.invariant.layout.header in
+    c.bytes_in.ensures ∙ ap (λ (b : List ℕ). header_bytes b c.self.inside.layout.header) c.deref.ensures.value ∙ c.self.invariant.layout.header in
     is_joined bytes c.bytes_in.result.now c.self.invariant.accepted joined
 
 pub returns-clause-header : goal.returns-clause-header
 returns-clause-header c =
     let bytes = c.self.inside.bytes.items in
     let joined : c.bytes_in.result.now ≡ concat (header_payloads bytes) =
-    c.bytes_in.ensures.joined ∙ ap (λ (b : List ℕ). header_bytes b c.self.inside.layout.header) c.as_slice-bytes.ensures.value ∙ c.self.invariant.layout.header in
-    let held : IsBytes bytes = subst (λ (b : List ℕ). IsBytes b) c.as_slice-bytes.ensures.value c.bytes_in.ensures.bytes in
-    header_means bytes c.bytes_in.result.now held c.self.invariant.accepted joined ∙ ap (λ (b : List ℕ). header_of b) c.self.view_is
+    c.bytes_in.ensures ∙ ap (λ (b : List ℕ). header_bytes b c.self.inside.layout.header) c.deref.ensures.value ∙ c.self.invariant.layout.header in
+    header_means bytes c.bytes_in.result.now c.self.invariant.bytes_are c.self.invariant.accepted joined ∙ ap (λ (b : List ℕ). header_of b) c.self.view_is

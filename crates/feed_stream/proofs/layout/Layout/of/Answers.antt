@@ -26,12 +26,12 @@ loop-field-preserved c =
       whole = c.in-Some.ensures.whole ∙ c.loop-field.invariant.whole;
     }
 
-pub returns-in-Err : goal.returns-in-Err
-returns-in-Err c =
+pub returns-in-Err-clause-layout : goal.returns-in-Err-clause-layout
+returns-in-Err-clause-layout c =
     let h : c.loop-field.fields.left ≡ Err c.in-Err.field-0 ∷ c.next.new.self.left = rw c.in-Err.is at c.in-Some.ensures.next in
     no_payload_left c.args.bytes.now c.loop-field.layout c.loop-field.fields.left (ap (payloads_in 2) h) (ap (payloads_in 1) h) c.loop-field.invariant.before
 
-pub returns : goal.returns
-returns c =
+pub returns-clause-layout : goal.returns-clause-layout
+returns-clause-layout c =
     let h : c.loop-field.fields.left ≡ [] = c.in_default.ensures.next.0 in
     no_payload_left c.args.bytes.now c.loop-field.layout c.loop-field.fields.left (ap (payloads_in 2) h) (ap (payloads_in 1) h) c.loop-field.invariant.before
