@@ -34,8 +34,8 @@ path_in number field = value_in path_of number Path field
 
 -- The row of this number: first not three fields, then the feed, the moment and the path.
 abbrev pub row_of : ℕ → Record → Result ListRow ListFault
-row_of number record_fields =
-    then_with (ok_or (fields_in record_fields) (NotThreeFields number)) (λ fields.
+row_of number cells =
+    then_with (ok_or (fields_in cells) (NotThreeFields number)) (λ fields.
     then_with (value_in feed_of number Feed fields.feed) (λ feed.
     then_with (value_in number_of number Moment fields.moment) (λ moment.
     then_with (path_in number fields.path) (λ path.

@@ -33,11 +33,11 @@ pub struct RowFields<'a> {
 }
 
 /// The row that a record is, whose number is told in a fault.
-pub fn row_of(alloc: Global, number: u64, record: &ByteRecord) -> Result<ListRow, ListFault>
-    ensures ok { IfOk result (λ row. row_of number (fields_of record.now) ≡ Ok row) }
-    ensures err { IfErr result (λ e. e ≢ fault.Memory → row_of number (fields_of record.now) ≡ Err e) }
+pub fn row_of(alloc: Global, number: u64, row: &ByteRecord) -> Result<ListRow, ListFault>
+    ensures ok { IfOk result (λ found. row_of number (fields_of row.now) ≡ Ok found) }
+    ensures err { IfErr result (λ e. e ≢ fault.Memory → row_of number (fields_of row.now) ≡ Err e) }
 {
-    let Some(fields) = fields_in(record) else {
+    let Some(fields) = fields_in(row) else {
         return Err(ListFault::NotThreeFields(number));
     };
     let feed = feed_in(number, fields.feed)?;
@@ -46,16 +46,16 @@ pub fn row_of(alloc: Global, number: u64, record: &ByteRecord) -> Result<ListRow
     Ok(ListRow { feed, moment, path })
 }
 
-fn fields_in(record: &ByteRecord) -> Option<RowFields<'_>>
-    ensures { option_map fields_held result ≡ fields_in (fields_of record.now) }
+fn fields_in(row: &ByteRecord) -> Option<RowFields<'_>>
+    ensures { option_map fields_held result ≡ fields_in (fields_of row.now) }
 {
-    if record.len() != 3 {
+    if row.len() != 3 {
         return None;
     }
     Some(RowFields {
-        feed: record.get(0)?,
-        moment: record.get(1)?,
-        path: record.get(2)?,
+        feed: row.get(0)?,
+        moment: row.get(1)?,
+        path: row.get(2)?,
     })
 }
 
@@ -72,19 +72,15 @@ fn text_in(number: u64, column: Column, field: &[u8]) -> Result<&str, ListFault>
 fn feed_in(number: u64, field: &[u8]) -> Result<u8, ListFault>
     ensures { result ≡ value_in feed_of number Feed field.now }
 {
-    match feed_of(text_in(number, Column::Feed, field)?) {
-        Some(feed) => Ok(feed),
-        None => Err(ListFault::BadValue(number, Column::Feed)),
-    }
+    let text = text_in(number, Column::Feed, field)?;
+    feed_of(text).ok_or(ListFault::BadValue(number, Column::Feed))
 }
 
 fn moment_in(number: u64, field: &[u8]) -> Result<u64, ListFault>
     ensures { result ≡ value_in number_of number Moment field.now }
 {
-    match number_of(text_in(number, Column::Moment, field)?) {
-        Some(moment) => Ok(moment),
-        None => Err(ListFault::BadValue(number, Column::Moment)),
-    }
+    let text = text_in(number, Column::Moment, field)?;
+    number_of(text).ok_or(ListFault::BadValue(number, Column::Moment))
 }
 
 fn path_in(alloc: Global, number: u64, field: &[u8]) -> Result<Text, ListFault>
