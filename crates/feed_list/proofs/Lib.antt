@@ -1,0 +1,5 @@
+pub mod Fields
+pub mod ListRows
+pub mod Lists
+pub mod Numbers
+pub mod ReadFaults

@@ -1,0 +1,26 @@
+//! The columns of a list.
+ghost use Rattle.std.specs.Prelude.{◌≡◌};
+ghost use Rattle.feed_list.specs.Texts.{column_name};
+
+/// A column of a list, in the order in which they stand.
+#[derive(Clone, Copy, Debug, PartialEq, Eq)]
+pub enum Column {
+    /// The number of the feed.
+    Feed,
+    /// The moment at which the snapshot came.
+    Moment,
+    /// The path of the snapshot's file.
+    Path,
+}
+
+impl Column {
+    pub fn name(self) -> &'static str
+        ensures { result.now ≡ column_name self }
+    {
+        match self {
+            Column::Feed => "feed",
+            Column::Moment => "moment",
+            Column::Path => "path",
+        }
+    }
+}

@@ -1,0 +1,24 @@
+//! The list of snapshots that are followed: which come in which order, of which feed, and at which moment.
+//!
+//! A list is a CSV file without a header row. Each row has three fields: the feed, a number from 0 to 15; the moment at
+//! which the snapshot came, as POSIX time in seconds; and the path of the snapshot's file. `read_list` reads a list whole,
+//! or answers its first fault: the file isn't there; it is too large, in bytes or in rows; or the first row that isn't a
+//! row of a list, with its number from 1 and, where a field is to blame, the column.
+//!
+//! From the bottom up: `column` and `fault` are what faults are made of, `number` reads a number, `row` reads a row,
+//! `rows` all rows of a file in memory, and `list` the file. `laws` says what a list holds in words of its rows.
+#![tactic(auto)]
+
+mod column;
+mod fault;
+mod laws;
+mod list;
+mod number;
+mod row;
+mod rows;
+
+pub use column::Column;
+pub use fault::ListFault;
+pub use laws::list_follows_its_rows;
+pub use list::read_list;
+pub use row::ListRow;

@@ -1,0 +1,5 @@
+pub mod Payloads
+pub mod Parts
+pub mod Layouts
+pub mod Held
+pub mod Laws

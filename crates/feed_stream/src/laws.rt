@@ -1,0 +1,8 @@
+//! The law of entities. The function stands for its contract: it does nothing, and its `ensures` is proved for all byte lists.
+ghost use Rattle.feed_stream.specs.Laws.{EntitiesFollowFields};
+
+/// An entity's payload and its base are those of the field that spells it, in the place that the entities before it leave.
+#[tactic(auto, using(crate::proofs::Bases::entities_follow_fields))]
+pub fn entities_follow_fields()
+    ensures { EntitiesFollowFields }
+{}
