@@ -455,7 +455,11 @@ fn the_moment_is_that_of_the_words(rt: HostRuntime) -> Result<(), Fail> {
             "{{\"bounded\":0,\"entities\":0,\"feed\":0,\"line\":\"accepted\",\"moment\":{moment},\"paired\":0,\"row\":0,\"snapshot\":0,\"tested\":0}}\n"
         )?;
         want.push_str(finding)?;
-        let status = if is_error { Status::Found } else { Status::Clean };
+        let status = if is_error {
+            Status::Found
+        } else {
+            Status::Clean
+        };
         assert_eq!(rt; ended.status, status, "{word}");
         assert_eq!(rt; ended.out.written(), want.as_bytes(), "{word}");
     }
