@@ -47,4 +47,5 @@ def main():
             row("%d trips, check --timetable" % trips, ["check", "--timetable", table, *NOW, name])
 
 
-main()
+if __name__ == "__main__":
+    main()
