@@ -1,0 +1,5 @@
+pub mod StopLemmas
+pub mod ListLemmas
+pub mod MatchLemmas
+pub mod SetterLemmas
+pub mod WalkLemmas
