@@ -3,3 +3,4 @@ pub mod ListLemmas
 pub mod MatchLemmas
 pub mod SetterLemmas
 pub mod WalkLemmas
+pub mod DayLemmas

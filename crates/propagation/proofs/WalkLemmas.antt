@@ -112,6 +112,12 @@ module _ (z : ℤ) (updates : List StopTimeUpdate) (matches : List (Option ℕ))
       ∙ sym (ap (λ g. rows ++ row_by arrival (outcome arrival (last_setter to_arrival)) ∷ row_by departure (outcome departure g) ∷ rest_rows) at_departure)
       ∙ sym (ap (λ g. rows ++ row_by arrival (outcome arrival g) ∷ event_row all departure ∷ rest_rows) at_arrival)
 
+-- the same events
+pub passed_as : (setters : List PlacedSetter) (rows : List PredictionRow) (new_setters : List PlacedSetter) (new_rows : List PredictionRow) (a b d e : Event) → a ≡ b → d ≡ e
+    → ArePassed setters rows a d new_setters new_rows → ArePassed setters rows b e new_setters new_rows
+passed_as setters rows new_setters new_rows a b d e ab de passed =
+    subst (λ x. ArePassed setters rows b x new_setters new_rows) de (subst (λ x. ArePassed setters rows x d new_setters new_rows) ab passed)
+
 -- one more stop
 pub walked-more : (z : ℤ) (updates : List StopTimeUpdate) (matches : List (Option ℕ)) (stops : List Stop) (first_setters : List PlacedSetter) (first_rows : List PredictionRow)
     (place : ℕ) (stop : Stop) (setters new_setters : List PlacedSetter) (rows new_rows : List PredictionRow)

@@ -42,17 +42,18 @@ pub record Holds (p : Predictions) (day : Option ℤ) (placed : List PlacedSette
 abbrev pub is_canceled : TripDescriptor → Bool
 is_canceled trip = unwrap_or trip.schedule_relationship 0 == 3
 
+-- the zero from which the times of a trip with a shift count on a day: the origin of the day plus the shift
+abbrev pub IsZeroOf : PlainZone → (day shift zero : ℤ) → Type 0
+IsZeroOf zone day shift zero = (origin : ℤ) × IsOrigin zone day origin × (zero ≡ origin +ℤ shift)
+
 -- scheduled mode: the relationship is SCHEDULED or not given, the trip is known and has a service day, and it has a shift.
--- The zero from which its times count is the origin of that day plus the shift.
 pub record IsTimed (t : Tables) (zone : PlainZone) (trip : TripDescriptor) (moment : ℕ) (id : Text) (day zero : ℤ) : Type 0 where
-  pub origin : ℤ
   pub shift : ℤ
   pub scheduled : is_scheduled trip.schedule_relationship ≡ true
   pub named : trip.trip_id ≡ Some id
   pub is_day : IsServiceDay t zone trip moment (Some day)
-  pub is_origin : IsOrigin zone day origin
   pub is_shift : shift_of t id trip.start_time ≡ Some shift
-  pub is_zero : zero ≡ origin +ℤ shift
+  pub is_zero : IsZeroOf zone day shift zero
 
 -- what keeps a trip update out of scheduled mode
 pub data IsUntimed (t : Tables) (zone : PlainZone) (trip : TripDescriptor) (moment : ℕ) : Type 0 where

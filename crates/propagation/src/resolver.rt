@@ -1,12 +1,12 @@
 //! Predictions of trip updates.
-ghost use Rattle.std.specs.Prelude.{◌≡◌, ◌<◌, ◌^◌, true, false, Some, IfOk, IfSome, IfNone, length, is_some, option_map};
+ghost use Rattle.std.specs.Prelude.{◌≡◌, ◌<◌, ◌^◌, ◌+ℤ◌, true, false, Some, IfOk, IfSome, IfNone, length, is_some, option_map};
 ghost use Rattle.std.specs.FinMap.{get};
 ghost use Rattle.rt_day.specs.Date.{IsYearInRange};
 ghost use Rattle.timetable.specs.Lookups.{IsTrip, IsTripOf, tables_in};
 ghost use Rattle.timetable.specs.Maps.{Text};
 ghost use Rattle.trip_calendar.specs.Trips.{shift_of};
 ghost use Rattle.trip_calendar.specs.Zones.{IsOrigin, zone_of};
-ghost use Rattle.propagation.specs.Predictions.{AreOver, IsPrediction, IsTiming, is_canceled};
+ghost use Rattle.propagation.specs.Predictions.{AreOver, IsPrediction, IsTiming, IsZeroOf, is_canceled};
 ghost use Rattle.propagation.specs.Setters.{IsZero, is_scheduled};
 ghost use Rattle.propagation.specs.Stops.{stops_of};
 
@@ -43,6 +43,13 @@ fn is_canceled(trip: &TripDescriptor) -> bool
     ensures { result ≡ is_canceled trip.now }
 {
     trip.schedule_relationship.unwrap_or(0) == CANCELED
+}
+
+fn sum(origin: i64, shift: i64) -> i128
+    ensures value { result ≡ origin +ℤ shift }
+    ensures small { IsZero result }
+{
+    origin as i128 + shift as i128
 }
 
 impl<'a> Resolver<'a> {
@@ -116,18 +123,27 @@ impl<'a> Resolver<'a> {
         ensures { (id : Text) → IsTripOf self.now.table.now number id → trip.now.trip_id ≡ Some id
             → IfOk result (IsTiming self.now.table.now (zone_of self.now.zone.now) trip.now moment) }
     {
-        let Some(day) = service_day(alloc, self.table, self.zone, trip, moment)? else {
-            return Ok(None);
-        };
-        let Some(shift) = shift(self.table, number, trip) else {
-            return Ok(None);
-        };
+        match service_day(alloc, self.table, self.zone, trip, moment)? {
+            Some(day) => match shift(self.table, number, trip) {
+                Some(shift) => Ok(Some(Timing {
+                    trip: number,
+                    day,
+                    zero: self.zero(alloc, day, shift)?,
+                })),
+                None => Ok(None),
+            },
+            None => Ok(None),
+        }
+    }
+
+    // The zero of a trip with a shift on a day, in POSIX seconds.
+    fn zero(&self, alloc: Global, day: Day, shift: i64) -> Result<i128, AllocError>
+        requires { IsYearInRange day.number }
+        ensures zero { IfOk result (IsZeroOf (zone_of self.now.zone.now) day.number shift) }
+        ensures small { IfOk result IsZero }
+    {
         match origin(alloc, self.zone, day)? {
-            Some(origin) => Ok(Some(Timing {
-                trip: number,
-                day,
-                zero: origin as i128 + shift as i128,
-            })),
+            Some(origin) => Ok(sum(origin, shift)),
             None => unreachable!(),
         }
     }

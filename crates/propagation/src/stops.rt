@@ -12,6 +12,7 @@ use std::collections::HashMap;
 use timetable::{StopTime, Timetable, TripNo};
 
 /// The stops of a trip, by rising `stop_sequence`. Their ids are those of the timetable.
+#[derive(Drop)]
 pub(crate) struct Stops<'a> {
     table: &'a Timetable,
     times: &'a [StopTime],
