@@ -1,5 +1,5 @@
 -- A service day has an origin.
-use Rattle.std.proofs.Common.{◌≡◌, ℕ, ℤ, List, Bool, true, false, cond, Some, None, Option, IfSome, option_map, sym, subst, ⊎_elim}
+use Rattle.std.proofs.Common.{◌≡◌, ℕ, ℤ, ◌+ℤ◌, List, Bool, true, false, cond, Some, None, Option, IfSome, option_map, refl, sym, subst, ⊎_elim}
 use Rattle.std.specs.Prelude.{nat_lt}
 use Rattle.std.specs.FinMap.{get}
 use Rattle.jiff_tz.specs.declared.timezone.TimeZone.{TimeZone as PlainZone}
@@ -12,6 +12,9 @@ use Rattle.timetable.specs.declared.trip.Trip.{Trip}
 use Rattle.trip_calendar.specs.declared.candidate.Candidate.{Candidate}
 use Rattle.trip_calendar.specs.ServiceDays.{IsCandidate, IsDayFrom, IsDayOfRow, IsDayOfTrip, IsNearest, IsNearestAround, IsServiceDay, nearer}
 use Rattle.trip_calendar.specs.Trips.{first_run}
+use Rattle.trip_calendar.specs.Zones.{IsOrigin}
+use Rattle.propagation.specs.Predictions.{HasZero, IsZeroOf}
+use Rattle.propagation.specs.Setters.{IsZero}
 
 abbrev HasOrigin : Option Candidate → Type 0
 HasOrigin o = IfSome o (λ candidate. IsYearInRange candidate.day.number)
@@ -61,3 +64,18 @@ module _ (t : Tables) (zone : PlainZone) (d : TripDescriptor) (moment : ℕ) (da
 
   pub service_day-in_range : IsServiceDay t zone d moment (Some day) → IsYearInRange day
   service_day-in_range h = of_trip d.trip_id h
+
+-- ---- what the zero says of the shift
+pub no_zero : (zone : PlainZone) (day : ℤ) (shift : Option ℤ) → HasZero zone day shift None → shift ≡ None
+no_zero zone day None h = refl
+no_zero zone day (Some shift) h = absurd h
+
+pub a_zero : (zone : PlainZone) (day : ℤ) (shift : Option ℤ) (z : ℤ) → HasZero zone day shift (Some z) → (s : ℤ) × (shift ≡ Some s) × IsZeroOf zone day s z × IsZero z
+a_zero zone day None z h = absurd (cc h)
+a_zero zone day (Some s) z h = (s, refl, h.0, h.1)
+
+pub has_zero : (zone : PlainZone) (day : ℤ) (shift : Option ℤ) (origin : ℤ) (o : Option ℤ) → IsOrigin zone day origin → o ≡ option_map (λ s. origin +ℤ s) shift → IfSome o IsZero
+    → HasZero zone day shift o
+has_zero zone day None origin o is e small = e
+has_zero zone day (Some s) origin o is e small =
+    subst (HasZero zone day (Some s)) (sym e) ((origin, is, refl), subst (λ x. IfSome x IsZero) e small)

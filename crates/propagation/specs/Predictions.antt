@@ -95,3 +95,9 @@ pub record AreOver (stops : List Stop) (update : TripUpdate) (day zero : ℤ) (p
   pub matches : List (Option ℕ)
   pub are_matches : AreMatches stops update.stop_time_update matches
   pub holds : HoldsScheduled p day update matches (events zero stops update.stop_time_update matches)
+
+-- the zero, which is there where the trip has a shift
+abbrev pub HasZero : PlainZone → ℤ → (shift zero : Option ℤ) → Type 0
+HasZero zone day None zero = zero ≡ None
+HasZero zone day (Some shift) None = ⊥
+HasZero zone day (Some shift) (Some zero) = IsZeroOf zone day shift zero × IsZero zero

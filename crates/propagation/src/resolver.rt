@@ -6,7 +6,7 @@ ghost use Rattle.timetable.specs.Lookups.{IsTrip, IsTripOf, tables_in};
 ghost use Rattle.timetable.specs.Maps.{Text};
 ghost use Rattle.trip_calendar.specs.Trips.{shift_of};
 ghost use Rattle.trip_calendar.specs.Zones.{IsOrigin, zone_of};
-ghost use Rattle.propagation.specs.Predictions.{AreOver, IsPrediction, IsTiming, IsZeroOf, is_canceled};
+ghost use Rattle.propagation.specs.Predictions.{AreOver, IsPrediction, HasZero, IsTiming, is_canceled};
 ghost use Rattle.propagation.specs.Setters.{IsZero, is_scheduled};
 ghost use Rattle.propagation.specs.Stops.{stops_of};
 
@@ -45,11 +45,15 @@ fn is_canceled(trip: &TripDescriptor) -> bool
     trip.schedule_relationship.unwrap_or(0) == CANCELED
 }
 
-fn sum(origin: i64, shift: i64) -> i128
-    ensures value { result ≡ origin +ℤ shift }
-    ensures small { IsZero result }
+// As much later than an origin as a shift says.
+fn shifted(origin: i64, shift: Option<i64>) -> Option<i128>
+    ensures value { result ≡ option_map (λ s. origin +ℤ s) shift }
+    ensures small { IfSome result IsZero }
 {
-    origin as i128 + shift as i128
+    match shift {
+        Some(shift) => Some(origin as i128 + shift as i128),
+        None => None,
+    }
 }
 
 impl<'a> Resolver<'a> {
@@ -124,11 +128,11 @@ impl<'a> Resolver<'a> {
             → IfOk result (IsTiming self.now.table.now (zone_of self.now.zone.now) trip.now moment) }
     {
         match service_day(alloc, self.table, self.zone, trip, moment)? {
-            Some(day) => match shift(self.table, number, trip) {
-                Some(shift) => Ok(Some(Timing {
+            Some(day) => match self.zero(alloc, day, shift(self.table, number, trip))? {
+                Some(zero) => Ok(Some(Timing {
                     trip: number,
                     day,
-                    zero: self.zero(alloc, day, shift)?,
+                    zero,
                 })),
                 None => Ok(None),
             },
@@ -137,13 +141,12 @@ impl<'a> Resolver<'a> {
     }
 
     // The zero of a trip with a shift on a day, in POSIX seconds.
-    fn zero(&self, alloc: Global, day: Day, shift: i64) -> Result<i128, AllocError>
+    fn zero(&self, alloc: Global, day: Day, shift: Option<i64>) -> Result<Option<i128>, AllocError>
         requires { IsYearInRange day.number }
-        ensures zero { IfOk result (IsZeroOf (zone_of self.now.zone.now) day.number shift) }
-        ensures small { IfOk result IsZero }
+        ensures { IfOk result (HasZero (zone_of self.now.zone.now) day.number shift) }
     {
         match origin(alloc, self.zone, day)? {
-            Some(origin) => Ok(sum(origin, shift)),
+            Some(origin) => Ok(shifted(origin, shift)),
             None => unreachable!(),
         }
     }
