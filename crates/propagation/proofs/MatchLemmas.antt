@@ -1,11 +1,11 @@
 -- The matches of updates, one by one.
-use Rattle.std.proofs.Common.{◌≡◌, ◌<◌, ◌≤◌, ◌+◌, ◌∷◌, ◌++◌, ◌==◌, [], ℕ, zero, suc, List, length, take, get_or, Bool, true, false, cond, Some, None, Option, All, IfSome, slice_get, refl, sym, ap, ◌∙◌, arith, subst, ⊎_elim}
+use Rattle.std.proofs.Common.{◌≡◌, ◌<◌, ◌≤◌, ◌+◌, ◌∷◌, ◌++◌, ◌==◌, [], ℕ, List, length, take, get_or, Bool, true, false, cond, Some, None, Option, All, IfSome, slice_get, refl, sym, ap, ◌∙◌, arith, subst, ⊎_elim}
 use Rattle.std.specs.List.{position_from}
 use Rattle.std.specs.Option.{option_or}
 use Rattle.std.proofs.Math.Seq.{take-append_seam}
 use Rattle.std.proofs.lemmas.Bool.{cases_lt, cases_eq, eq-eqb, ne_eqb}
 use Rattle.std.proofs.lemmas.List.{length-append, length-take, take-append-le, take_more}
-use Rattle.std.proofs.lemmas.List.Elements.{All-cons, All-head, All-push, All-tail}
+use Rattle.std.proofs.lemmas.List.Elements.{All-head, All-push, All-tail}
 use Rattle.std.proofs.lemmas.Option.{slice_get-get_or, slice_get_within}
 use Rattle.feed_values.specs.declared.stop_time_update.StopTimeUpdate.{StopTimeUpdate}
 use Rattle.propagation.specs.Matching.{AreMatches, AreOrdered, IsMatch, StandsAfter, is_at, matcher, next_from}
@@ -18,9 +18,10 @@ pub is_match : (stops : List Stop) (u : StopTimeUpdate) (earlier : List (Option 
     → ((j : ℕ) → from ≤ j → StandsAfter earlier j) → ((j : ℕ) → StandsAfter earlier j → from ≤ j)
     → IsFirstFrom (names u) stops from m → IsMatch stops u earlier m
 is_match stops u earlier from None after least first = λ place may. absurd (cc (sym may.named ∙ first place (least place may.after)))
-is_match stops u earlier from (Some place) after least first =
-    (record { named = first.1; after = after place first.0 },
-    λ other may. ⊎_elim (λ lt. absurd (cc (sym may.named ∙ first.2 other (least other may.after) lt))) (λ le. le) (cases_lt other place))
+is_match stops u earlier from (Some place) after least first = (
+  record { named = first.1; after = after place first.0 },
+  λ other may. ⊎_elim (λ lt. absurd (cc (sym may.named ∙ first.2 other (least other may.after) lt))) (λ le. le) (cases_lt other place),
+)
 
 abbrev pub EachMatch : List Stop → List StopTimeUpdate → List (Option ℕ) → Type 0
 EachMatch stops updates matches = (k : ℕ) (u : StopTimeUpdate) (m : Option ℕ) → slice_get updates k ≡ Some u → slice_get matches k ≡ Some m

@@ -1,12 +1,12 @@
 -- Setters in the order of their positions.
-use Rattle.std.proofs.Common.{◌≡◌, ◌<◌, ◌≤◌, ◌+◌, ◌*◌, ◌∷◌, ◌++◌, [], ℕ, ℤ, pos, negsuc, ◌<ℤ◌, ◌≤ℤ◌, int_le, zero, suc, List, length, get_or, true, false, Some, None, Option, All, AllPairs, option_map, refl, sym, ap, ◌∙◌, arith, subst, ⊎_elim}
+use Rattle.std.proofs.Common.{◌≡◌, ◌+◌, ◌*◌, ◌∷◌, ◌++◌, [], ℕ, ℤ, pos, negsuc, ◌<ℤ◌, ◌≤ℤ◌, int_le, zero, suc, List, get_or, true, false, Some, None, Option, All, option_map, ap, arith, subst, ⊎_elim}
 use Rattle.std.specs.List.Sorted.{IsPartitionedBy}
 use Rattle.std.proofs.lemmas.Bool.{cases_lt}
-use Rattle.std.proofs.lemmas.List.Elements.{All-append, All-cons, All-nil, All-push, All-weaker}
+use Rattle.std.proofs.lemmas.List.Elements.{All-append, All-cons, All-nil, All-weaker}
 use Rattle.jiff.proofs.SpanFacts.{signed_arith}
 use Rattle.jiff_tz.proofs.TzifLemmas.{le_below, le_no, le_yes}
 use Rattle.feed_values.specs.declared.stop_time_update.StopTimeUpdate.{StopTimeUpdate}
-use Rattle.propagation.specs.Events.{Event, arrival_at, departure_at, events, events_from, own_of}
+use Rattle.propagation.specs.Events.{arrival_at, departure_at, events, events_from, own_of}
 use Rattle.propagation.specs.Matching.{matcher}
 use Rattle.propagation.specs.Setters.{AreInOrder, event_setters, governing, last_setter, placed, set_at, setters}
 use Rattle.propagation.specs.Stops.{Stop}

@@ -1,6 +1,5 @@
 -- Where the stops of a trip stand.
-use Rattle.std.proofs.Common.{◌≡◌, ◌<◌, ◌≤◌, ◌==◌, ◌∷◌, [], ℕ, zero, suc, List, length, map, get_or, Bool, true, false, T, cond, bytes_eq, subst, Some, None, Option, slice_get, option_map, unwrap_or, refl, sym, ap, ⊎_elim, ◌∙◌, arith}
-use Rattle.std.proofs.lemmas.Bool.Decides.{nat_tests}
+use Rattle.std.proofs.Common.{◌≡◌, ◌<◌, ◌≤◌, ◌==◌, ◌∷◌, [], ℕ, zero, suc, List, length, map, Bool, true, false, T, cond, bytes_eq, subst, Some, None, Option, slice_get, option_map, unwrap_or, refl, sym, ap, ⊎_elim, ◌∙◌, arith}
 use Rattle.std.proofs.lemmas.Bool.{cases_Bool, cases_lt, eq-eqb, ne_eqb}
 use Rattle.std.specs.Cmp.Lexicographic.{bytes_decides}
 use Rattle.std.proofs.lemmas.Option.{slice_get_past}
@@ -38,9 +37,12 @@ sequence-yes ids q ts i at = passes-sequence ids q ts i at.in_range ∙ eq-eqb (
 
 -- a stop of rising ones that has the sequence is the only one
 pub found_from : (ids : List Text) (q : ℕ) (ts : List StopTime) (from i : ℕ) → AreRising ts → StandsAt ts q i → from ≤ i → IsFirstFrom (λ s. s.sequence == q) (with_ids ids ts) from (Some i)
-found_from ids q ts from i rising at le =
-    (le, sequence-yes ids q ts i at, λ place low below. sequence-no ids q ts place (λ within same.
-    let up = rises ts place i rising below at.in_range in omega (arith, up, same, at.has)))
+found_from ids q ts from i rising at le = (
+  le,
+  sequence-yes ids q ts i at,
+  λ place low below. sequence-no ids q ts place (λ within same.
+      let up = rises ts place i rising below at.in_range in omega (arith, up, same, at.has)),
+)
 
 pub found_before : (ids : List Text) (q : ℕ) (ts : List StopTime) (from i : ℕ) → AreRising ts → StandsAt ts q i → i < from → IsFirstFrom (λ s. s.sequence == q) (with_ids ids ts) from None
 found_before ids q ts from i rising at lt = λ place low. sequence-no ids q ts place (λ within same.

@@ -1,5 +1,5 @@
 -- The walk through the events of a trip, stop by stop.
-use Rattle.std.proofs.Common.{◌≡◌, ◌<◌, ◌≤◌, ◌+◌, ◌*◌, ◌∷◌, ◌++◌, [], ℕ, ℤ, pos, ◌<ℤ◌, ◌≤ℤ◌, ◌+ℤ◌, zero, suc, List, length, drop, map, slice_get, Some, Option, All, refl, sym, ap, ◌∙◌, arith, add-one, subst, append_assoc}
+use Rattle.std.proofs.Common.{◌≡◌, ◌+◌, ◌*◌, ◌∷◌, ◌++◌, [], ℕ, ℤ, pos, ◌<ℤ◌, ◌≤ℤ◌, ◌+ℤ◌, zero, suc, List, drop, map, slice_get, Some, Option, All, refl, sym, ap, ◌∙◌, arith, add-one, subst, append_assoc}
 use Rattle.std.proofs.lemmas.List.Elements.{All-append, All-weaker}
 use Rattle.jiff.proofs.SpanFacts.{signed_arith}
 use Rattle.feed_values.specs.declared.stop_time_update.StopTimeUpdate.{StopTimeUpdate}
@@ -129,14 +129,14 @@ walked-more z updates matches stops first_setters first_rows place stop setters 
     let low = walked.before in
     let all = first_setters ++ event_setters (events z stops updates matches) in
     let left_is : events_from z updates matches place (drop place stops) ≡ arrival z updates matches place stop rest setters low ∷ departure z updates matches place stop rest setters low ∷ left z updates matches place stop rest setters low
-        = ap (events_from z updates matches place) (drop-at stops place stop at) in
+    = ap (events_from z updates matches place) (drop-at stops place stop at) in
     let is = ap (λ l. setters ++ event_setters l) (sym left_is) ∙ walked.all_setters in
     let set = passed.new_setters_are in
     record {
       all_setters = ap (λ l. l ++ event_setters (left z updates matches place stop rest setters low)) set ∙ sym (all-departure z updates matches place stop rest setters low) ∙ is;
       all_rows = ap (λ l. l ++ map (event_row all) (left z updates matches place stop rest setters low)) (passed.new_rows_are
           ∙ ap (λ l. (rows ++ row_by (arrival z updates matches place stop rest setters low) (outcome (arrival z updates matches place stop rest setters low) (last_setter (to_arrival z updates matches place stop rest setters low))) ∷ [])
-            ++ row_by (departure z updates matches place stop rest setters low) (outcome (departure z updates matches place stop rest setters low) (last_setter l)) ∷ []) set)
+          ++ row_by (departure z updates matches place stop rest setters low) (outcome (departure z updates matches place stop rest setters low) (last_setter l)) ∷ []) set)
           ∙ rows-departure z updates matches place stop rest setters low rows all is
           ∙ ap (λ l. rows ++ map (event_row all) l) (sym left_is) ∙ walked.all_rows;
       small = small;

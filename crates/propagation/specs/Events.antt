@@ -1,6 +1,6 @@
 -- The events of a trip: the arrival and the departure of its first stop, then of the second, and so on.
 -- (GTFS Schedule Reference, "stop_times.txt"; the positions are this profile's.)
-use Rattle.std.specs.Prelude.{ℕ, ◌+◌, ◌*◌, ℤ, pos, ◌+ℤ◌, List, [], ◌∷◌, ◌++◌, Option, Some, None, option_map, option_and_then, slice_get}
+use Rattle.std.specs.Prelude.{ℕ, ◌+◌, ◌*◌, ℤ, pos, ◌+ℤ◌, List, [], ◌∷◌, Option, option_map, option_and_then, slice_get}
 use Rattle.feed_values.specs.declared.stop_time_update.StopTimeUpdate.{StopTimeUpdate}
 use Rattle.timetable.specs.Maps.{Text}
 use Rattle.propagation.specs.Matching.{matcher}

@@ -1,7 +1,6 @@
 -- The predictions of a trip update.
 -- (GTFS Realtime Reference, "Trip Updates" and "TripDescriptor"; the modes are this profile's.)
 use Rattle.std.specs.Prelude.{◌≡◌, ℕ, ℤ, ◌+ℤ◌, ◌==◌, Bool, true, false, List, [], ◌∷◌, Option, Some, None, option_map, unwrap_or}
-use Rattle.feed_values.specs.declared.stop_time_update.StopTimeUpdate.{StopTimeUpdate}
 use Rattle.feed_values.specs.declared.trip_descriptor.TripDescriptor.{TripDescriptor}
 use Rattle.feed_values.specs.declared.trip_update.TripUpdate.{TripUpdate}
 use Rattle.jiff_tz.specs.declared.timezone.TimeZone.{TimeZone as PlainZone}

@@ -2,7 +2,6 @@
 -- (GTFS Realtime Reference, "Trip Updates"; the states are this profile's.)
 use Rattle.std.specs.Prelude.{◌≡◌, ℕ, ◌+◌, ℤ, ◌+ℤ◌, ◌-ℤ◌, List, [], ◌∷◌, ◌++◌, map, Option, Some, None, option_map, option_and_then, unwrap_or, if◌then◌else◌}
 use Rattle.feed_values.specs.declared.stop_time_update.StopTimeUpdate.{StopTimeUpdate}
-use Rattle.timetable.specs.Maps.{Text}
 use Rattle.propagation.specs.Events.{Event, Own}
 use Rattle.propagation.specs.Setters.{governing, is_scheduled, last_setter, placed, set_at, is_skipped, stated_delay, stated_time}
 use Rattle.propagation.specs.declared.event_kind.EventKind.{EventKind}

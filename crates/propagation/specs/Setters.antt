@@ -1,7 +1,7 @@
 -- Which delays a trip update sets, and which of them governs an event.
 -- (GTFS Realtime Reference, "Trip Updates", delay propagation; "TripUpdate", delay; "StopTimeUpdate", schedule_relationship;
 -- "StopTimeEvent". The positions are this profile's.)
-use Rattle.std.specs.Prelude.{◌≡◌, ℕ, ◌==◌, ℤ, pos, negsuc, ◌-ℤ◌, ◌<ℤ◌, int_le, Bool, true, false, ◌&&◌, List, [], ◌∷◌, ◌++◌, flat_map, filter, All, AllPairs, Option, Some, None, IfSome, option_map, option_and_then, unwrap_or, if◌then◌else◌}
+use Rattle.std.specs.Prelude.{ℕ, ◌==◌, ℤ, pos, negsuc, ◌-ℤ◌, ◌<ℤ◌, int_le, Bool, true, false, ◌&&◌, List, [], ◌∷◌, ◌++◌, flat_map, filter, All, AllPairs, Option, Some, None, IfSome, option_map, option_and_then, unwrap_or, if◌then◌else◌}
 use Rattle.jiff_core.specs.Calendar.{IsBetween}
 use Rattle.feed_values.specs.Meaning.{last_of}
 use Rattle.feed_values.specs.declared.stop_time_event.StopTimeEvent.{StopTimeEvent}
@@ -54,7 +54,7 @@ set_by e own =
     if has_no_data own.update.schedule_relationship && is_arrival e.event then Some (record { source = source.Update own.index; delay = None })
     else (if is_scheduled own.update.schedule_relationship
     then option_map (λ delay. record { source = source.Update own.index; delay = Some delay })
-        (delay_by (stated_time e.event own.update) e.scheduled (stated_delay e.event own.update))
+    (delay_by (stated_time e.event own.update) e.scheduled (stated_delay e.event own.update))
     else None)
 
 abbrev pub set_at : Event → Option Setter

@@ -21,12 +21,7 @@ pub(crate) struct Outcome {
 }
 
 /// An event whose time is stated.
-fn at_time(
-    source: Source,
-    scheduled: Option<i128>,
-    stated: Option<i32>,
-    time: i64,
-) -> Outcome
+fn at_time(source: Source, scheduled: Option<i128>, stated: Option<i32>, time: i64) -> Outcome
     requires { IfSome scheduled IsInstant }
     ensures { result ≡ at_time source scheduled stated time }
 {

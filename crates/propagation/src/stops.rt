@@ -107,7 +107,11 @@ impl<'a> Stops<'a> {
         ensures { IsFirstFrom (λ stop. bytes_eq id.now stop.stop) (stops_in self.now) from result }
     {
         match last.get(id) {
-            Some(last) => if *last >= from { self.scan(id, from) } else { None },
+            Some(last) => if *last >= from {
+                self.scan(id, from)
+            } else {
+                None
+            },
             None => None,
         }
     }

@@ -1,4 +1,4 @@
-use Rattle.std.proofs.Common.{◌≡◌, ◌≤◌, ◌+◌, ◌∷◌, [], arith, refl, slice_get, sym, ◌∙◌, ap, length, Some, subst, vec_items}
+use Rattle.std.proofs.Common.{◌≡◌, ◌≤◌, ◌+◌, ◌∷◌, [], refl, slice_get, sym, ◌∙◌, ap, length, Some, subst}
 use Rattle.std.proofs.lemmas.List.{length-append}
 use Rattle.std.proofs.lemmas.Option.{slice_get_read}
 use Rattle.propagation.specs.Matching.{StandsAfter}

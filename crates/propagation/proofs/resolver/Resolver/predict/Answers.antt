@@ -1,4 +1,4 @@
-use Rattle.std.proofs.Common.{IfOk, ap, subst, sym, ◌∙◌}
+use Rattle.std.proofs.Common.{ap, subst, sym, ◌∙◌}
 use Rattle.std.proofs.lemmas.Result.{IfOk-weaker}
 use Rattle.timetable.specs.Lookups.{tables_in}
 use Rattle.trip_calendar.specs.Zones.{zone_of}

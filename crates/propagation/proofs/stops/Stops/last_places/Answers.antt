@@ -1,8 +1,7 @@
-use Rattle.std.proofs.Common.{◌≡◌, ◌<◌, ◌≤◌, arith, bytes_eq, false, Some, length, sym, ◌∙◌, ap, ⊎_elim, slice_get}
+use Rattle.std.proofs.Common.{arith, ⊎_elim}
 use Rattle.std.proofs.lemmas.Bool.{cases_lt}
 use Rattle.std.proofs.lemmas.Map.Text.{hash_map_updates_str}
 use Rattle.std.proofs.lemmas.Option.{slice_get_within}
-use Rattle.std.specs.HashMap.{get_by}
 use Rattle.propagation.specs.Stops.{stop_in, stops_in}
 use Rattle.propagation.proofs.StopLemmas.{own_id, reached-next}
 use Rattle.propagation.proofs.stops.Stops.last_places.Goals as goal

@@ -1,4 +1,4 @@
-use Rattle.std.proofs.Common.{bytes_eq, sym, ◌∙◌}
+use Rattle.std.proofs.Common.{bytes_eq, sym}
 use Rattle.std.specs.HashMap.{get_by}
 use Rattle.propagation.specs.Stops.{stops_in}
 use Rattle.propagation.proofs.StopLemmas.{absent, gone}

@@ -1,4 +1,3 @@
-use Rattle.std.proofs.Common.{arith}
 use Rattle.timetable.specs.Lookups.{tables_in}
 use Rattle.propagation.proofs.StopLemmas.{found_before, found_from, not_found}
 use Rattle.propagation.proofs.stops.Stops.with_sequence.Goals as goal
