@@ -4,3 +4,4 @@ pub mod MatchLemmas
 pub mod SetterLemmas
 pub mod WalkLemmas
 pub mod DayLemmas
+pub mod LawLemmas

@@ -4,3 +4,4 @@ pub mod Events
 pub mod Setters
 pub mod Rows
 pub mod Predictions
+pub mod Laws

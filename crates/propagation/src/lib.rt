@@ -13,6 +13,7 @@
 
 mod event;
 mod event_kind;
+mod laws;
 mod matching;
 mod outcome;
 mod own;
@@ -30,6 +31,7 @@ mod visit;
 mod walk;
 
 pub use event_kind::EventKind;
+pub use laws::{the_greatest_setter_governs, updates_match_in_one_way};
 pub use prediction_row::PredictionRow;
 pub use predictions::Predictions;
 pub use resolver::Resolver;
