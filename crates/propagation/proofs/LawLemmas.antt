@@ -50,22 +50,32 @@ order-above x xs order k d within = order 0 (suc k) d (omega arith) (omega (arit
 
 one_more : (x : PlacedSetter) (xs : List PlacedSetter) (p : ℤ) (o : Option PlacedSetter) → All (λ s. x.position <ℤ s.position) xs → x.position ≤ℤ p
     → Greatest xs p o → Greatest (x ∷ xs) p (option_or o (Some x))
-one_more x xs p None above le none =
-    (Contains-head x xs, le, λ other in_ low. ⊎_elim
-    (λ same. let e = ap (λ (s : PlacedSetter). s.position) same in omega (arith, signed_arith, e))
-    (λ rest. absurd (none other rest low)) (Contains-cases x xs other in_))
-one_more x xs p (Some s) above le great =
-    (Contains-rest x xs s great.0, great.1, λ other in_ low. ⊎_elim
-    (λ same. let e = ap (λ (s : PlacedSetter). s.position) same in let lt = All-contains (λ (t : PlacedSetter). x.position <ℤ t.position) xs s above great.0 in omega (arith, signed_arith, e, lt))
-    (λ rest. great.2 other rest low) (Contains-cases x xs other in_))
+one_more x xs p None above le none = (
+  Contains-head x xs,
+  le,
+  λ other in_ low. ⊎_elim
+      (λ same. let e = ap (λ (s : PlacedSetter). s.position) same in omega (arith, signed_arith, e))
+      (λ rest. absurd (none other rest low)) (Contains-cases x xs other in_),
+)
+one_more x xs p (Some s) above le great = (
+  Contains-rest x xs s great.0,
+  great.1,
+  λ other in_ low. ⊎_elim
+      (λ same. let e = ap (λ (s : PlacedSetter). s.position) same in let lt = All-contains (λ (t : PlacedSetter). x.position <ℤ t.position) xs s above great.0 in omega (arith, signed_arith, e, lt))
+      (λ rest. great.2 other rest low) (Contains-cases x xs other in_),
+)
 
 one_past : (x : PlacedSetter) (xs : List PlacedSetter) (p : ℤ) (o : Option PlacedSetter) → p <ℤ x.position → Greatest xs p o → Greatest (x ∷ xs) p o
 one_past x xs p None lt none = λ s in_ low. ⊎_elim
     (λ same. let e = ap (λ (s : PlacedSetter). s.position) same in absurd (omega (arith, signed_arith, e, lt, low)))
     (λ rest. none s rest low) (Contains-cases x xs s in_)
-one_past x xs p (Some s) lt great = (Contains-rest x xs s great.0, great.1, λ other in_ low. ⊎_elim
-    (λ same. let e = ap (λ (s : PlacedSetter). s.position) same in absurd (omega (arith, signed_arith, e, lt, low)))
-    (λ rest. great.2 other rest low) (Contains-cases x xs other in_))
+one_past x xs p (Some s) lt great = (
+  Contains-rest x xs s great.0,
+  great.1,
+  λ other in_ low. ⊎_elim
+      (λ same. let e = ap (λ (s : PlacedSetter). s.position) same in absurd (omega (arith, signed_arith, e, lt, low)))
+      (λ rest. great.2 other rest low) (Contains-cases x xs other in_),
+)
 
 Contains-none : {A : Type 0} (x : A) → Contains [] x → ⊥
 Contains-none x (k, within, e) = absurd (omega (arith, within))

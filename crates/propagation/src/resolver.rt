@@ -26,6 +26,7 @@ use trip_calendar::{Zone, origin, service_day, shift};
 const CANCELED: u32 = 3;
 
 /// Predicts stop events over a timetable whose times are those of a zone.
+#[derive(Clone, Copy)]
 pub struct Resolver<'a> {
     table: &'a Timetable,
     zone: &'a Zone,

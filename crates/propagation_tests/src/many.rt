@@ -1,0 +1,96 @@
+//! A thousand stops with a thousand updates that state stop ids alone.
+
+use crate::made::{NONE, Told, Trip, predicted, text_of, update, update_with};
+use feed_values::{Items, StopTimeUpdate};
+use propagation::{PredictionRow, Source};
+use rt_outside::QuietFiles;
+use std::alloc::{AllocError, Global};
+use std::test::Fail;
+use timetable::Timetable;
+use trip_calendar::Zone;
+
+/// The header of stop_times.txt.
+const HEADER: &str = "trip_id,arrival_time,departure_time,stop_id,stop_sequence\n";
+
+// The line of a stop time, which is at midnight.
+fn visit(alloc: Global, number: u32) -> Result<String, AllocError> {
+    format!(in alloc; "M1,00:00:00,00:00:00,S{number},{number}\n")
+}
+
+// A thousand stop times, one at each of the stops S1 to S1000.
+fn visits(alloc: Global) -> Result<String, AllocError> {
+    let mut text = String::from_str(alloc, HEADER)?;
+    for number in 1..1001 {
+        let line = visit(alloc, number)?;
+        text.push_str(line.as_str())?;
+    }
+    Ok(text)
+}
+
+fn timetable(alloc: Global) -> Result<Timetable, Fail> {
+    let mut files = QuietFiles::new(alloc);
+    files.add("many/agency.txt", b"agency_id\n")?;
+    files.add("many/stops.txt", b"stop_id\n")?;
+    files.add("many/routes.txt", b"route_id\n")?;
+    files.add("many/trips.txt", b"route_id,service_id,trip_id\nR1,WK,M1\n")?;
+    let text = visits(alloc)?;
+    files.add("many/stop_times.txt", text.as_bytes())?;
+    Ok(Timetable::load(alloc, &mut files, "many")?)
+}
+
+// An arrival at a stop that is as many seconds late as the stop's number.
+fn late(alloc: Global, number: i32) -> Result<StopTimeUpdate, AllocError> {
+    let told = Told {
+        sequence: None,
+        stop: None,
+        relationship: None,
+        arrival: (Some(number), None),
+        departure: NONE,
+    };
+    let mut one = update(alloc, told)?;
+    let name = format!(in alloc; "S{number}")?;
+    one.stop_id = Some(text_of(alloc, name.as_str())?);
+    Ok(one)
+}
+
+fn updates(alloc: Global) -> Result<Items<StopTimeUpdate>, AllocError> {
+    let mut items = Items::new(alloc);
+    for number in 1..1001 {
+        items.push(late(alloc, number)?)?;
+    }
+    Ok(items)
+}
+
+// Whether the rows of the stop with an index are by the update with that index.
+fn is_late(row: &PredictionRow, index: usize) -> bool {
+    row.source == Source::Update((index / 2) as u32) && row.delay == Some((index / 2) as i128 + 1)
+}
+
+fn are_late(rows: &[PredictionRow]) -> bool {
+    if rows.len() != 2_000 {
+        return false;
+    }
+    for (index, row) in rows.iter().enumerate() {
+        if !is_late(row, index) {
+            return false;
+        }
+    }
+    true
+}
+
+#[test]
+fn a_thousand_updates_match_a_thousand_stops(rt: HostRuntime) -> Result<(), Fail> {
+    let alloc = rt.alloc();
+    let table = timetable(alloc)?;
+    let zone = Zone::from_rule(alloc, "UTC0")?;
+    let trip = Trip {
+        id: "M1",
+        date: Some("20231114"),
+        relationship: None,
+        delay: None,
+    };
+    let given = update_with(alloc, trip, updates(alloc)?)?;
+    let found = predicted(alloc, &table, &zone, &given, 0)?;
+    assert!(rt; are_late(found.rows()));
+    Ok(())
+}
