@@ -1,20 +1,19 @@
 -- The set of setters and its greatest, and the one way in which updates match.
-use Rattle.std.proofs.Common.{◌≡◌, ◌<◌, ◌≤◌, ◌+◌, ◌∷◌, ◌++◌, ◌==◌, ◌⊎◌, ◌↔◌, [], ℕ, ℤ, pos, negsuc, ◌<ℤ◌, ◌≤ℤ◌, int_le, zero, suc, List, length, take, filter, flat_map, get_or, Bool, true, false, cond, Some, None, Option, All, Contains, slice_get, option_map, option_and_then, inl, inr, refl, sym, ap, ◌∙◌, arith, add-one, IfSome, subst, ⊎_elim}
+use Rattle.std.proofs.Common.{◌≡◌, ◌<◌, ◌≤◌, ◌+◌, ◌∷◌, ◌⊎◌, ◌↔◌, [], ℕ, ℤ, negsuc, ◌<ℤ◌, ◌≤ℤ◌, int_le, zero, suc, List, length, take, filter, get_or, Bool, true, cond, Some, None, Option, All, Contains, slice_get, option_map, inl, inr, refl, sym, ap, ◌∙◌, arith, add-one, IfSome, subst, ⊎_elim}
 use borrow.Author.Differences.{le-true, le-false}
 use Rattle.std.specs.Option.{option_or}
 use Rattle.std.specs.List.{position_from}
 use Rattle.std.proofs.lemmas.Bool.{cases_Bool, cases_order, eqb-true, eq-eqb}
 use Rattle.std.proofs.lemmas.List.{ext_get_or, get_or-take, length-take, take_more_same}
-use Rattle.std.proofs.lemmas.List.Elements.{All-contains, All-from_get_or, Contains-append_cases, Contains-append_left, Contains-append_right}
+use Rattle.std.proofs.lemmas.List.Elements.{All-contains, Contains-append_cases, Contains-append_left, Contains-append_right}
 use Rattle.std.proofs.lemmas.Option.{get_or_from_slice_get, slice_get-get_or, slice_get_within}
 use Rattle.jiff.proofs.SpanFacts.{signed_arith}
-use Rattle.jiff_tz.proofs.TzifLemmas.{le_no, le_yes}
 use Rattle.feed_values.specs.Meaning.{last_of}
 use Rattle.feed_values.specs.declared.stop_time_update.StopTimeUpdate.{StopTimeUpdate}
 use Rattle.propagation.specs.Events.{Event, events}
 use Rattle.propagation.specs.Laws.{IsGreatest, IsSetter, of_event, of_trip}
-use Rattle.propagation.specs.Matching.{AreMatches, AreOrdered, IsMatch, MayMatch, StandsAfter, is_at, matcher}
-use Rattle.propagation.specs.Setters.{AreInOrder, event_setters, governing, last_setter, placed, set_at, setters, trip_setters}
+use Rattle.propagation.specs.Matching.{AreMatches, AreOrdered, IsMatch, is_at, matcher}
+use Rattle.propagation.specs.Setters.{AreInOrder, event_setters, governing, placed, set_at, setters, trip_setters}
 use Rattle.propagation.specs.Stops.{Stop}
 use Rattle.propagation.specs.declared.placed_setter.PlacedSetter.{PlacedSetter}
 use Rattle.propagation.specs.declared.setter.Setter.{Setter}

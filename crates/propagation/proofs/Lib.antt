@@ -5,3 +5,4 @@ pub mod SetterLemmas
 pub mod WalkLemmas
 pub mod DayLemmas
 pub mod LawLemmas
+pub mod WayLemmas

@@ -9,7 +9,11 @@ use Rattle.propagation.specs.declared.placed_setter.PlacedSetter.{PlacedSetter}
 use Rattle.propagation.specs.declared.setter.Setter.{Setter}
 use Rattle.propagation.specs.declared.source.Source.TheVariants as source
 
--- updates match stops in one way
+-- updates match stops in some way
+abbrev pub MatchInSomeWay : Type 0
+MatchInSomeWay = (stops : List Stop) (updates : List StopTimeUpdate) → (matches : List (Option ℕ)) × AreMatches stops updates matches
+
+-- and in one way alone
 abbrev pub MatchInOneWay : Type 0
 MatchInOneWay = (stops : List Stop) (updates : List StopTimeUpdate) (one other : List (Option ℕ))
     → AreMatches stops updates one → AreMatches stops updates other → one ≡ other

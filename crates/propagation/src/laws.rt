@@ -1,8 +1,9 @@
 //! What the definitions of the contracts stand for. Each law is a contract that an empty body meets.
-ghost use Rattle.propagation.specs.Laws.{GoverningIsGreatest, ListIsTheSet, MatchInOneWay, MatcherIsTheMatch, PositionsRise};
+ghost use Rattle.propagation.specs.Laws.{GoverningIsGreatest, ListIsTheSet, MatchInOneWay, MatchInSomeWay, MatcherIsTheMatch, PositionsRise};
 
-/// Updates match the stops of a trip in one way, and a stop's update is the one that matches it: no two match one stop.
+/// Updates match the stops of a trip in exactly one way, and a stop's update is the one that matches it: no two match one stop.
 pub fn updates_match_in_one_way()
+    ensures some { MatchInSomeWay }
     ensures one { MatchInOneWay }
     ensures matcher { MatcherIsTheMatch }
 {}

@@ -1,11 +1,9 @@
 //! Predictions of trip updates.
-ghost use Rattle.std.specs.Prelude.{◌≡◌, ◌<◌, ◌^◌, ◌+ℤ◌, true, false, Some, IfOk, IfSome, IfNone, length, is_some, option_map};
-ghost use Rattle.std.specs.FinMap.{get};
+ghost use Rattle.std.specs.Prelude.{◌≡◌, ◌<◌, ◌^◌, ◌+ℤ◌, true, Some, IfOk, IfSome, length, option_map};
 ghost use Rattle.rt_day.specs.Date.{IsYearInRange};
 ghost use Rattle.timetable.specs.Lookups.{IsTrip, IsTripOf, tables_in};
 ghost use Rattle.timetable.specs.Maps.{Text};
-ghost use Rattle.trip_calendar.specs.Trips.{shift_of};
-ghost use Rattle.trip_calendar.specs.Zones.{IsOrigin, zone_of};
+ghost use Rattle.trip_calendar.specs.Zones.{zone_of};
 ghost use Rattle.propagation.specs.Predictions.{AreOver, IsPrediction, HasZero, IsTiming, is_canceled};
 ghost use Rattle.propagation.specs.Setters.{IsZero, is_scheduled};
 ghost use Rattle.propagation.specs.Stops.{stops_of};

@@ -1,6 +1,6 @@
 //! The rows of updates.
-ghost use Rattle.std.specs.Prelude.{◌≡◌, ◌<◌, ◌^◌, ◌∷◌, ◌++◌, [], IfOk, OnOk, length, option_copied, option_map};
-ghost use Rattle.propagation.specs.Rows.{canceled_row, one_row, stated_from, stated_row, time_row, unmatched_from, unmatched_row};
+ghost use Rattle.std.specs.Prelude.{◌≡◌, ◌<◌, ◌^◌, ◌∷◌, ◌++◌, [], IfOk, OnOk, length};
+ghost use Rattle.propagation.specs.Rows.{canceled_row, stated_from, stated_row, time_row, unmatched_from, unmatched_row};
 ghost use Rattle.propagation.specs.declared.event_kind.EventKind.TheVariants as kind;
 
 use crate::event_kind::EventKind;

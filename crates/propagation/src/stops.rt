@@ -1,6 +1,6 @@
 //! The stops of a trip.
 ghost use Rattle.std.specs.HashMap.{get_by};
-ghost use Rattle.std.specs.Prelude.{◌≡◌, ◌≤◌, ◌<◌, ◌^◌, ◌==◌, ℕ, All, IfOk, IfErr, IfSome, Some, length, slice_get, bytes_eq};
+ghost use Rattle.std.specs.Prelude.{◌≡◌, ◌<◌, ◌^◌, ◌==◌, All, IfOk, IfErr, IfSome, Some, length, slice_get, bytes_eq};
 ghost use Rattle.timetable.specs.Lookups.{IsStop, IsTrip, IsTripOf, tables_in};
 ghost use Rattle.timetable.specs.Maps.{Text};
 ghost use Rattle.timetable.specs.Times.{AreRising, IsGapFor, StandsAt};

@@ -1,5 +1,5 @@
 //! The walk through the events of a trip.
-ghost use Rattle.std.specs.Prelude.{◌≡◌, ◌<◌, ◌≤◌, ◌∷◌, ◌++◌, [], ℤ, negsuc, ℕ, All, IfOk, IfSome, OnOk, Some, length, map};
+ghost use Rattle.std.specs.Prelude.{◌≡◌, ◌<◌, ◌∷◌, ◌++◌, [], negsuc, IfOk, IfSome, OnOk, Some, length, map};
 ghost use Rattle.propagation.specs.Events.{event_in, events};
 ghost use Rattle.propagation.specs.Rows.{ArePassed, event_row, outcome, row_by};
 ghost use Rattle.propagation.specs.Setters.{IsDelay, IsInstant, IsZero, AreSmall, BeforeFirst, event_setters, last_setter, placed, set_at, setters, trip_setters};
