@@ -1,6 +1,6 @@
 //! Each case of an event and each state, a loop, a town after midnight, and the ends of 32 bits.
 
-use crate::made::{NONE, Said, Told, Trip, predictions, row_is_at, row_says, rows_say, table_of};
+use crate::made::{Said, Told, Trip, predictions, row_is_at, row_says, rows_say, table_of};
 use propagation::{EventKind, Predictions, RowState, Source};
 use std::alloc::Global;
 use std::test::Fail;
@@ -51,35 +51,15 @@ const W1: Trip = Trip {
 /// The first stop states nothing; the departure from the second a delay and a time; the third a delay at its arrival and a time
 /// at its departure; the fourth is skipped, and one more update names no stop.
 const EVENTS: [Told; 4] = [
-    Told {
-        sequence: Some(2),
-        stop: None,
-        relationship: Some(0),
-        arrival: NONE,
-        departure: (Some(5), Some(47)),
-    },
-    Told {
-        sequence: None,
-        stop: Some("C"),
-        relationship: None,
-        arrival: NONE,
-        departure: (Some(9), Some(60)),
-    },
-    Told {
-        sequence: Some(9),
-        stop: None,
-        relationship: None,
-        arrival: (Some(1), None),
-        departure: NONE,
-    },
-    Told {
-        sequence: Some(4),
-        stop: None,
-        relationship: Some(1),
-        arrival: (Some(1), None),
-        departure: NONE,
-    },
+    (Some(2), "-", Some(0), (None, None), (Some(5), Some(47))),
+    (None, "C", None, (None, None), (Some(9), Some(60))),
+    (Some(9), "-", None, (Some(1), None), (None, None)),
+    (Some(4), "-", Some(1), (Some(1), None), (None, None)),
 ];
+
+fn events() -> &'static [Told] {
+    &EVENTS
+}
 
 const STATES: [Said; 9] = [
     (
@@ -156,22 +136,24 @@ const STATES: [Said; 9] = [
     ),
 ];
 
+fn states() -> &'static [Said] {
+    &STATES
+}
+
 #[test]
 fn each_event_has_its_state(rt: HostRuntime) -> Result<(), Fail> {
-    let found = town(rt.alloc(), "UTC0", W1, &EVENTS)?;
-    assert!(rt; rows_say(&found, &STATES));
+    let found = town(rt.alloc(), "UTC0", W1, events())?;
+    assert!(rt; rows_say(&found, states()));
     assert!(rt; row_is_at(&found, 5, Some(3), Some("C")));
     Ok(())
 }
 
 /// No data at the second stop, although it states a delay there, and a delay of the whole trip before it.
-const NO_DATA: [Told; 1] = [Told {
-    sequence: Some(2),
-    stop: None,
-    relationship: Some(2),
-    arrival: (Some(5), None),
-    departure: (Some(5), None),
-}];
+const NO_DATA: [Told; 1] = [(Some(2), "-", Some(2), (Some(5), None), (Some(5), None))];
+
+fn no_data() -> &'static [Told] {
+    &NO_DATA
+}
 
 const FROM_TRIP: [Said; 8] = [
     (
@@ -240,41 +222,37 @@ const FROM_TRIP: [Said; 8] = [
     ),
 ];
 
+fn from_trip() -> &'static [Said] {
+    &FROM_TRIP
+}
+
 #[test]
 fn a_trip_delay_goes_on_to_no_data(rt: HostRuntime) -> Result<(), Fail> {
     let trip = Trip {
         delay: Some(-15),
         ..W1
     };
-    let found = town(rt.alloc(), "UTC0", trip, &NO_DATA)?;
-    assert!(rt; rows_say(&found, &FROM_TRIP));
+    let found = town(rt.alloc(), "UTC0", trip, no_data())?;
+    assert!(rt; rows_say(&found, from_trip()));
     Ok(())
 }
 
 /// The first update names the first visit of A, the second its second visit, and the third none that is left.
 const LOOP: [Told; 3] = [
-    Told {
-        sequence: None,
-        stop: Some("A"),
-        relationship: None,
-        arrival: (Some(1), None),
-        departure: NONE,
-    },
-    Told {
-        sequence: None,
-        stop: Some("A"),
-        relationship: None,
-        arrival: (Some(-2_147_483_648), None),
-        departure: (Some(2_147_483_647), None),
-    },
-    Told {
-        sequence: None,
-        stop: Some("B"),
-        relationship: None,
-        arrival: (Some(3), None),
-        departure: NONE,
-    },
+    (None, "A", None, (Some(1), None), (None, None)),
+    (
+        None,
+        "A",
+        None,
+        (Some(-2_147_483_648), None),
+        (Some(2_147_483_647), None),
+    ),
+    (None, "B", None, (Some(3), None), (None, None)),
 ];
+
+fn visits_told() -> &'static [Told] {
+    &LOOP
+}
 
 const VISITS: [Said; 9] = [
     (
@@ -351,22 +329,24 @@ const VISITS: [Said; 9] = [
     ),
 ];
 
+fn visits() -> &'static [Said] {
+    &VISITS
+}
+
 #[test]
 fn a_loop_visits_a_stop_twice(rt: HostRuntime) -> Result<(), Fail> {
     let trip = Trip { id: "O1", ..W1 };
-    let found = town(rt.alloc(), "UTC0", trip, &LOOP)?;
-    assert!(rt; rows_say(&found, &VISITS));
+    let found = town(rt.alloc(), "UTC0", trip, visits_told())?;
+    assert!(rt; rows_say(&found, visits()));
     assert!(rt; row_is_at(&found, 4, Some(3), Some("A")));
     Ok(())
 }
 
-const LATE: [Told; 1] = [Told {
-    sequence: Some(1),
-    stop: None,
-    relationship: None,
-    arrival: (Some(60), None),
-    departure: NONE,
-}];
+const LATE: [Told; 1] = [(Some(1), "-", None, (Some(60), None), (None, None))];
+
+fn late() -> &'static [Told] {
+    &LATE
+}
 
 /// The night in which New York's clocks are set back, and the day that a moment gives.
 const NIGHT: Said = (
@@ -394,48 +374,48 @@ fn day_of(predictions: &Predictions) -> Option<i32> {
     }
 }
 
-#[test]
-fn times_count_from_the_service_day(rt: HostRuntime) -> Result<(), Fail> {
-    let night = Trip {
+// Whether a trip of New York that is a minute late has a service day, and a row that says this.
+fn runs_on(
+    alloc: Global,
+    date: Option<&'static str>,
+    day: i32,
+    index: usize,
+    said: &Said,
+) -> Result<bool, Fail> {
+    let trip = Trip {
         id: "T2",
-        date: Some("20231105"),
-        ..W1
+        date,
+        relationship: None,
+        delay: None,
     };
-    let found = town(rt.alloc(), "EST5EDT,M3.2.0,M11.1.0", night, &LATE)?;
-    assert!(rt; row_says(&found, 2, &NIGHT));
-    assert_eq!(rt; day_of(&found), Some(19_666));
-    let day = Trip {
-        id: "T2",
-        date: None,
-        ..W1
-    };
-    let found = town(rt.alloc(), "EST5EDT,M3.2.0,M11.1.0", day, &LATE)?;
-    assert!(rt; row_says(&found, 0, &DAY));
-    assert_eq!(rt; day_of(&found), Some(19_675));
-    Ok(())
+    let found = town(alloc, "EST5EDT,M3.2.0,M11.1.0", trip, late())?;
+    Ok(day_of(&found) == Some(day) && row_says(&found, index, said))
 }
 
-fn source_at(predictions: &Predictions, position: usize) -> Option<(Source, Option<i128>)> {
-    match predictions.governing(position) {
-        Some(setter) => Some((setter.source, setter.delay)),
-        None => None,
-    }
+#[test]
+fn times_count_from_the_service_day(rt: HostRuntime) -> Result<(), Fail> {
+    assert!(rt; runs_on(rt.alloc(), Some("20231105"), 19_666, 2, &NIGHT)?);
+    assert!(rt; runs_on(rt.alloc(), None, 19_675, 0, &DAY)?);
+    Ok(())
 }
 
 /// A position, and which update governs it with which delay: the departure from the second stop sets 7, and its effect goes on
 /// past the last event.
-const GOVERNING: [(usize, Option<(Source, Option<i128>)>); 4] = [
-    (2, None),
-    (3, Some((Source::Update(0), Some(7)))),
-    (5, Some((Source::Update(1), Some(9)))),
-    (4_000_000_000_000, Some((Source::Update(1), Some(9)))),
-];
+const GOVERNING: [(usize, u32, i128); 3] = [(3, 0, 7), (5, 1, 9), (4_000_000_000_000, 1, 9)];
+
+fn governs(predictions: &Predictions, position: usize, update: u32, delay: i128) -> bool {
+    match predictions.governing(position) {
+        Some(setter) => setter.source == Source::Update(update) && setter.delay == Some(delay),
+        None => false,
+    }
+}
 
 #[test]
 fn a_setter_governs_from_its_event_on(rt: HostRuntime) -> Result<(), Fail> {
-    let found = town(rt.alloc(), "UTC0", W1, &EVENTS)?;
-    for (position, want) in GOVERNING {
-        assert_eq!(rt; source_at(&found, position), want, "{position}");
+    let found = town(rt.alloc(), "UTC0", W1, events())?;
+    assert!(rt; found.governing(2).is_none());
+    for (position, update, delay) in GOVERNING {
+        assert!(rt; governs(&found, position, update, delay), "{position}");
     }
     Ok(())
 }

@@ -1,6 +1,6 @@
 //! A line of twenty stops, a minute between each two. The expected values are worked by hand.
 
-use crate::made::{NONE, Said, Told, Trip, predictions, row_is_at, row_says, rows_say, table_of};
+use crate::made::{Said, Told, Trip, predictions, row_is_at, row_says, rows_say, table_of};
 use propagation::{EventKind, Predictions, RowState, Source};
 use std::alloc::Global;
 use std::test::Fail;
@@ -50,41 +50,34 @@ fn line(alloc: Global, relationship: Option<u32>, told: &[Told]) -> Result<Predi
 
 /// An arrival 300 s late at the third stop, one 60 s late at the eighth, and no data from the tenth on.
 const THREE: [Told; 3] = [
-    Told {
-        sequence: Some(3),
-        stop: None,
-        relationship: None,
-        arrival: (Some(300), None),
-        departure: NONE,
-    },
-    Told {
-        sequence: Some(8),
-        stop: None,
-        relationship: None,
-        arrival: (Some(60), None),
-        departure: NONE,
-    },
-    Told {
-        sequence: Some(10),
-        stop: None,
-        relationship: Some(2),
-        arrival: NONE,
-        departure: NONE,
-    },
+    (Some(3), "-", None, (Some(300), None), (None, None)),
+    (Some(8), "-", None, (Some(60), None), (None, None)),
+    (Some(10), "-", Some(2), (None, None), (None, None)),
 ];
 
+fn three() -> &'static [Told] {
+    &THREE
+}
+
+/// From which row on, up to which, what state, delay and source.
+type Run = (usize, usize, RowState, Option<i128>, Source);
+
+/// The index of a row, and what it says.
+type Place = (usize, Said);
+
 /// From which row on, up to which, what state, delay and source: four rows are unknown, ten are 300 s late, four 60 s.
-const RUNS: [(usize, usize, RowState, Option<i128>, Source); 4] = [
+const RUNS: [Run; 4] = [
     (0, 4, RowState::Unknown, None, Source::Blank),
     (4, 14, RowState::Predicted, Some(300), Source::Update(0)),
     (14, 18, RowState::Predicted, Some(60), Source::Update(1)),
     (18, 40, RowState::NoData, None, Source::Update(2)),
 ];
 
-fn has_run(
-    predictions: &Predictions,
-    run: &(usize, usize, RowState, Option<i128>, Source),
-) -> bool {
+fn runs() -> &'static [Run] {
+    &RUNS
+}
+
+fn has_run(predictions: &Predictions, run: &Run) -> bool {
     for (index, row) in predictions.rows().iter().enumerate() {
         let within = run.0 <= index && index < run.1;
         if within && (row.state != run.2 || row.delay != run.3 || row.source != run.4) {
@@ -94,91 +87,105 @@ fn has_run(
     true
 }
 
-const FIRST: Said = (
-    EventKind::Arrival,
-    Some(1_699_948_800),
-    None,
-    None,
-    Source::Blank,
-    RowState::Unknown,
-);
+fn have_runs(predictions: &Predictions, runs: &[Run]) -> bool {
+    for run in runs {
+        if !has_run(predictions, run) {
+            return false;
+        }
+    }
+    true
+}
 
-const THIRD: Said = (
-    EventKind::Arrival,
-    Some(1_699_948_920),
-    Some(1_699_949_220),
-    Some(300),
-    Source::Update(0),
-    RowState::Predicted,
-);
+/// The first arrival, the third, the departure from the eighth stop, and the tenth arrival.
+const PLACES: [Place; 4] = [
+    (
+        0,
+        (
+            EventKind::Arrival,
+            Some(1_699_948_800),
+            None,
+            None,
+            Source::Blank,
+            RowState::Unknown,
+        ),
+    ),
+    (
+        4,
+        (
+            EventKind::Arrival,
+            Some(1_699_948_920),
+            Some(1_699_949_220),
+            Some(300),
+            Source::Update(0),
+            RowState::Predicted,
+        ),
+    ),
+    (
+        15,
+        (
+            EventKind::Departure,
+            Some(1_699_949_220),
+            Some(1_699_949_280),
+            Some(60),
+            Source::Update(1),
+            RowState::Predicted,
+        ),
+    ),
+    (
+        18,
+        (
+            EventKind::Arrival,
+            Some(1_699_949_340),
+            None,
+            None,
+            Source::Update(2),
+            RowState::NoData,
+        ),
+    ),
+];
 
-const EIGHTH: Said = (
-    EventKind::Departure,
-    Some(1_699_949_220),
-    Some(1_699_949_280),
-    Some(60),
-    Source::Update(1),
-    RowState::Predicted,
-);
+fn places() -> &'static [Place] {
+    &PLACES
+}
 
-const TENTH: Said = (
-    EventKind::Arrival,
-    Some(1_699_949_340),
-    None,
-    None,
-    Source::Update(2),
-    RowState::NoData,
-);
+fn say_all(predictions: &Predictions, all: &[Place]) -> bool {
+    for (index, said) in all {
+        if !row_says(predictions, *index, said) {
+            return false;
+        }
+    }
+    true
+}
 
 #[test]
 fn each_delay_goes_on_to_the_next(rt: HostRuntime) -> Result<(), Fail> {
-    let found = line(rt.alloc(), None, &THREE)?;
-    assert_eq!(rt; found.rows().len(), 40);
-    for run in &RUNS {
-        assert!(rt; has_run(&found, run));
-    }
-    assert!(rt; row_says(&found, 0, &FIRST));
-    assert!(rt; row_says(&found, 4, &THIRD));
-    assert!(rt; row_says(&found, 15, &EIGHTH));
-    assert!(rt; row_says(&found, 18, &TENTH));
-    assert!(rt; row_is_at(&found, 18, Some(10), Some("Q10")));
+    let found = line(rt.alloc(), None, three())?;
+    assert!(rt; have_runs(&found, runs()));
+    assert!(rt; say_all(&found, places()));
+    assert!(rt; row_is_at(&found, 39, Some(20), Some("Q20")));
     Ok(())
 }
 
 /// A delay at 2, a departure's delay at 4, a stop skipped, and the greatest time of 64 bits at 7.
 const FOUR: [Told; 4] = [
-    Told {
-        sequence: Some(2),
-        stop: None,
-        relationship: None,
-        arrival: (Some(300), None),
-        departure: NONE,
-    },
-    Told {
-        sequence: Some(4),
-        stop: None,
-        relationship: None,
-        arrival: NONE,
-        departure: (Some(100), None),
-    },
-    Told {
-        sequence: Some(5),
-        stop: None,
-        relationship: Some(1),
-        arrival: (Some(7), None),
-        departure: NONE,
-    },
-    Told {
-        sequence: Some(7),
-        stop: None,
-        relationship: None,
-        arrival: (None, Some(9_223_372_036_854_775_807)),
-        departure: NONE,
-    },
+    (Some(2), "-", None, (Some(300), None), (None, None)),
+    (Some(4), "-", None, (None, None), (Some(100), None)),
+    (Some(5), "-", Some(1), (Some(7), None), (None, None)),
+    (
+        Some(7),
+        "-",
+        None,
+        (None, Some(9_223_372_036_854_775_807)),
+        (None, None),
+    ),
 ];
 
+fn four() -> &'static [Told] {
+    &FOUR
+}
+
 /// By index: the arrival and the departure at 4, both at 5, and the arrivals at 6, 7 and 8.
-const SAID: [(usize, Said); 7] = [
+const SAID: [Place; 7] = [
     (
         6,
         (
@@ -258,55 +265,47 @@ const SAID: [(usize, Said); 7] = [
     ),
 ];
 
-fn say_all(predictions: &Predictions, all: &[(usize, Said)]) -> bool {
-    for (index, said) in all {
-        if !row_says(predictions, *index, said) {
-            return false;
-        }
-    }
-    true
+fn said_of_four() -> &'static [Place] {
+    &SAID
 }
 
 #[test]
 fn a_skipped_stop_ends_no_delay(rt: HostRuntime) -> Result<(), Fail> {
-    let found = line(rt.alloc(), None, &FOUR)?;
-    assert!(rt; say_all(&found, &SAID));
+    let found = line(rt.alloc(), None, four())?;
+    assert!(rt; say_all(&found, said_of_four()));
     Ok(())
 }
 
 /// A stop that stands before the one that was matched last.
 const BACK: [Told; 2] = [
-    Told {
-        sequence: Some(8),
-        stop: None,
-        relationship: None,
-        arrival: (Some(60), None),
-        departure: NONE,
-    },
-    Told {
-        sequence: Some(3),
-        stop: None,
-        relationship: None,
-        arrival: (Some(60), None),
-        departure: NONE,
-    },
+    (Some(8), "-", None, (Some(60), None), (None, None)),
+    (Some(3), "-", None, (Some(60), None), (None, None)),
 ];
 
-const UNMATCHED: Said = (
-    EventKind::Update,
-    None,
-    None,
-    None,
-    Source::Update(1),
-    RowState::Unmatched,
-);
+fn back() -> &'static [Told] {
+    &BACK
+}
+
+const UNMATCHED: [Place; 1] = [(
+    40,
+    (
+        EventKind::Update,
+        None,
+        None,
+        None,
+        Source::Update(1),
+        RowState::Unmatched,
+    ),
+)];
+
+fn unmatched() -> &'static [Place] {
+    &UNMATCHED
+}
 
 #[test]
 fn an_update_of_an_earlier_stop_is_unmatched(rt: HostRuntime) -> Result<(), Fail> {
-    let found = line(rt.alloc(), Some(0), &BACK)?;
-    assert_eq!(rt; found.rows().len(), 41);
-    assert!(rt; has_run(&found, &(0, 14, RowState::Unknown, None, Source::Blank)));
-    assert!(rt; row_says(&found, 40, &UNMATCHED));
+    let found = line(rt.alloc(), Some(0), back())?;
+    assert!(rt; say_all(&found, unmatched()));
     assert!(rt; row_is_at(&found, 40, Some(3), None));
     Ok(())
 }
@@ -320,23 +319,30 @@ const CANCELED: [Said; 1] = [(
     RowState::Canceled,
 )];
 
+fn canceled() -> &'static [Said] {
+    &CANCELED
+}
+
 #[test]
 fn a_canceled_trip_has_one_row(rt: HostRuntime) -> Result<(), Fail> {
-    let found = line(rt.alloc(), Some(3), &THREE)?;
-    assert!(rt; rows_say(&found, &CANCELED));
-    assert!(rt; row_is_at(&found, 0, None, None));
+    let found = line(rt.alloc(), Some(3), three())?;
+    assert!(rt; rows_say(&found, canceled()));
     assert!(rt; found.day().is_none());
     assert!(rt; found.governing(40).is_none());
     Ok(())
 }
 
-const ADDED: [Told; 1] = [Told {
-    sequence: None,
-    stop: Some("Q3"),
-    relationship: None,
-    arrival: (None, Some(1_699_949_000)),
-    departure: (Some(60), None),
-}];
+const ADDED: [Told; 1] = [(
+    None,
+    "Q3",
+    None,
+    (None, Some(1_699_949_000)),
+    (Some(60), None),
+)];
+
+fn added() -> &'static [Told] {
+    &ADDED
+}
 
 const STATED: [Said; 1] = [(
     EventKind::Arrival,
@@ -347,10 +353,14 @@ const STATED: [Said; 1] = [(
     RowState::Stated,
 )];
 
+fn stated() -> &'static [Said] {
+    &STATED
+}
+
 #[test]
 fn an_added_trip_has_its_stated_times(rt: HostRuntime) -> Result<(), Fail> {
-    let found = line(rt.alloc(), Some(1), &ADDED)?;
-    assert!(rt; rows_say(&found, &STATED));
+    let found = line(rt.alloc(), Some(1), added())?;
+    assert!(rt; rows_say(&found, stated()));
     assert!(rt; row_is_at(&found, 0, None, Some("Q3")));
     assert!(rt; found.day().is_none());
     Ok(())

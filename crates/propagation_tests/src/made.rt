@@ -24,18 +24,8 @@ pub fn table_of(
 /// The delay and the time that an event states. An event is given where it states one.
 pub type Stated = (Option<i32>, Option<i64>);
 
-/// An event that isn't given.
-pub const NONE: Stated = (None, None);
-
-/// An update.
-#[derive(Clone, Copy)]
-pub struct Told {
-    pub sequence: Option<u32>,
-    pub stop: Option<&'static str>,
-    pub relationship: Option<u32>,
-    pub arrival: Stated,
-    pub departure: Stated,
-}
+/// An update: the stop_sequence, the stop_id, `-` for none, and the relationship that it states, and its arrival and departure.
+pub type Told = (Option<u32>, &'static str, Option<u32>, Stated, Stated);
 
 pub fn text_of(alloc: Global, text: &str) -> Result<Text, AllocError> {
     let mut copy = Text::new(alloc);
@@ -48,6 +38,10 @@ fn given_text(alloc: Global, text: Option<&str>) -> Result<Option<Text>, AllocEr
         Some(text) => Ok(Some(text_of(alloc, text)?)),
         None => Ok(None),
     }
+}
+
+fn named(stop: &str) -> Option<&str> {
+    if stop == "-" { None } else { Some(stop) }
 }
 
 fn event(alloc: Global, stated: Stated) -> Option<StopTimeEvent> {
@@ -64,11 +58,11 @@ fn event(alloc: Global, stated: Stated) -> Option<StopTimeEvent> {
 
 pub fn update(alloc: Global, told: Told) -> Result<StopTimeUpdate, AllocError> {
     Ok(StopTimeUpdate {
-        stop_sequence: told.sequence,
-        arrival: event(alloc, told.arrival),
-        departure: event(alloc, told.departure),
-        stop_id: given_text(alloc, told.stop)?,
-        schedule_relationship: told.relationship,
+        stop_sequence: told.0,
+        arrival: event(alloc, told.3),
+        departure: event(alloc, told.4),
+        stop_id: given_text(alloc, named(told.1))?,
+        schedule_relationship: told.2,
         unknown: Items::new(alloc),
     })
 }

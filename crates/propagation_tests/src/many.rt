@@ -1,6 +1,6 @@
 //! A thousand stops with a thousand updates that state stop ids alone.
 
-use crate::made::{NONE, Told, Trip, predicted, text_of, update, update_with};
+use crate::made::{Trip, predicted, text_of, update, update_with};
 use feed_values::{Items, StopTimeUpdate};
 use propagation::{PredictionRow, Source};
 use rt_outside::QuietFiles;
@@ -40,13 +40,7 @@ fn timetable(alloc: Global) -> Result<Timetable, Fail> {
 
 // An arrival at a stop that is as many seconds late as the stop's number.
 fn late(alloc: Global, number: i32) -> Result<StopTimeUpdate, AllocError> {
-    let told = Told {
-        sequence: None,
-        stop: None,
-        relationship: None,
-        arrival: (Some(number), None),
-        departure: NONE,
-    };
+    let told = (None, "-", None, (Some(number), None), (None, None));
     let mut one = update(alloc, told)?;
     let name = format!(in alloc; "S{number}")?;
     one.stop_id = Some(text_of(alloc, name.as_str())?);
