@@ -374,28 +374,33 @@ fn day_of(predictions: &Predictions) -> Option<i32> {
     }
 }
 
-// Whether a trip of New York that is a minute late has a service day, and a row that says this.
-fn runs_on(
-    alloc: Global,
-    date: Option<&'static str>,
-    day: i32,
-    index: usize,
-    said: &Said,
-) -> Result<bool, Fail> {
-    let trip = Trip {
+fn night_trip(date: Option<&'static str>) -> Trip {
+    Trip {
         id: "T2",
         date,
         relationship: None,
         delay: None,
-    };
-    let found = town(alloc, "EST5EDT,M3.2.0,M11.1.0", trip, late())?;
-    Ok(day_of(&found) == Some(day) && row_says(&found, index, said))
+    }
+}
+
+// What is predicted in New York of a trip that is a minute late.
+fn night(alloc: Global, date: Option<&'static str>) -> Result<Predictions, Fail> {
+    town(alloc, "EST5EDT,M3.2.0,M11.1.0", night_trip(date), late())
 }
 
 #[test]
-fn times_count_from_the_service_day(rt: HostRuntime) -> Result<(), Fail> {
-    assert!(rt; runs_on(rt.alloc(), Some("20231105"), 19_666, 2, &NIGHT)?);
-    assert!(rt; runs_on(rt.alloc(), None, 19_675, 0, &DAY)?);
+fn a_night_counts_from_its_service_day(rt: HostRuntime) -> Result<(), Fail> {
+    let found = night(rt.alloc(), Some("20231105"))?;
+    assert_eq!(rt; day_of(&found), Some(19_666));
+    assert!(rt; row_says(&found, 2, &NIGHT));
+    Ok(())
+}
+
+#[test]
+fn without_a_date_the_moment_gives_the_day(rt: HostRuntime) -> Result<(), Fail> {
+    let found = night(rt.alloc(), None)?;
+    assert_eq!(rt; day_of(&found), Some(19_675));
+    assert!(rt; row_says(&found, 0, &DAY));
     Ok(())
 }
 

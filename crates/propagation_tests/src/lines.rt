@@ -36,15 +36,18 @@ fn line_files() -> &'static [(&'static str, &'static str)] {
     &LINE
 }
 
-fn line(alloc: Global, relationship: Option<u32>, told: &[Told]) -> Result<Predictions, Fail> {
-    let table = table_of(alloc, "line", line_files())?;
-    let zone = Zone::from_rule(alloc, "UTC0")?;
-    let trip = Trip {
+fn line_trip(relationship: Option<u32>) -> Trip {
+    Trip {
         id: "L1",
         date: Some("20231114"),
         relationship,
         delay: None,
-    };
+    }
+}
+
+fn line(alloc: Global, trip: Trip, told: &[Told]) -> Result<Predictions, Fail> {
+    let table = table_of(alloc, "line", line_files())?;
+    let zone = Zone::from_rule(alloc, "UTC0")?;
     Ok(predictions(alloc, &table, &zone, trip, told)?)
 }
 
@@ -159,7 +162,7 @@ fn say_all(predictions: &Predictions, all: &[Place]) -> bool {
 
 #[test]
 fn each_delay_goes_on_to_the_next(rt: HostRuntime) -> Result<(), Fail> {
-    let found = line(rt.alloc(), None, three())?;
+    let found = line(rt.alloc(), line_trip(None), three())?;
     assert!(rt; have_runs(&found, runs()));
     assert!(rt; say_all(&found, places()));
     assert!(rt; row_is_at(&found, 39, Some(20), Some("Q20")));
@@ -271,7 +274,7 @@ fn said_of_four() -> &'static [Place] {
 
 #[test]
 fn a_skipped_stop_ends_no_delay(rt: HostRuntime) -> Result<(), Fail> {
-    let found = line(rt.alloc(), None, four())?;
+    let found = line(rt.alloc(), line_trip(None), four())?;
     assert!(rt; say_all(&found, said_of_four()));
     Ok(())
 }
@@ -304,7 +307,7 @@ fn unmatched() -> &'static [Place] {
 
 #[test]
 fn an_update_of_an_earlier_stop_is_unmatched(rt: HostRuntime) -> Result<(), Fail> {
-    let found = line(rt.alloc(), Some(0), back())?;
+    let found = line(rt.alloc(), line_trip(Some(0)), back())?;
     assert!(rt; say_all(&found, unmatched()));
     assert!(rt; row_is_at(&found, 40, Some(3), None));
     Ok(())
@@ -325,7 +328,7 @@ fn canceled() -> &'static [Said] {
 
 #[test]
 fn a_canceled_trip_has_one_row(rt: HostRuntime) -> Result<(), Fail> {
-    let found = line(rt.alloc(), Some(3), three())?;
+    let found = line(rt.alloc(), line_trip(Some(3)), three())?;
     assert!(rt; rows_say(&found, canceled()));
     assert!(rt; found.day().is_none());
     assert!(rt; found.governing(40).is_none());
@@ -359,7 +362,7 @@ fn stated() -> &'static [Said] {
 
 #[test]
 fn an_added_trip_has_its_stated_times(rt: HostRuntime) -> Result<(), Fail> {
-    let found = line(rt.alloc(), Some(1), added())?;
+    let found = line(rt.alloc(), line_trip(Some(1)), added())?;
     assert!(rt; rows_say(&found, stated()));
     assert!(rt; row_is_at(&found, 0, None, Some("Q3")));
     assert!(rt; found.day().is_none());

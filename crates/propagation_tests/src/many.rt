@@ -2,7 +2,7 @@
 
 use crate::made::{Trip, predicted, text_of, update, update_with};
 use feed_values::{Items, StopTimeUpdate};
-use propagation::{PredictionRow, Source};
+use propagation::{PredictionRow, Predictions, Source};
 use rt_outside::QuietFiles;
 use std::alloc::{AllocError, Global};
 use std::test::Fail;
@@ -72,19 +72,25 @@ fn are_late(rows: &[PredictionRow]) -> bool {
     true
 }
 
-#[test]
-fn a_thousand_updates_match_a_thousand_stops(rt: HostRuntime) -> Result<(), Fail> {
-    let alloc = rt.alloc();
-    let table = timetable(alloc)?;
-    let zone = Zone::from_rule(alloc, "UTC0")?;
-    let trip = Trip {
+fn many_trip() -> Trip {
+    Trip {
         id: "M1",
         date: Some("20231114"),
         relationship: None,
         delay: None,
-    };
-    let given = update_with(alloc, trip, updates(alloc)?)?;
-    let found = predicted(alloc, &table, &zone, &given, 0)?;
+    }
+}
+
+fn found(alloc: Global) -> Result<Predictions, Fail> {
+    let table = timetable(alloc)?;
+    let zone = Zone::from_rule(alloc, "UTC0")?;
+    let given = update_with(alloc, many_trip(), updates(alloc)?)?;
+    Ok(predicted(alloc, &table, &zone, &given, 0)?)
+}
+
+#[test]
+fn a_thousand_updates_match_a_thousand_stops(rt: HostRuntime) -> Result<(), Fail> {
+    let found = found(rt.alloc())?;
     assert!(rt; are_late(found.rows()));
     Ok(())
 }
