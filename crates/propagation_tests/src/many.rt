@@ -12,29 +12,47 @@ use trip_calendar::Zone;
 /// The header of stop_times.txt.
 const HEADER: &str = "trip_id,arrival_time,departure_time,stop_id,stop_sequence\n";
 
-// The line of a stop time, which is at midnight.
-fn visit(alloc: Global, number: u32) -> Result<String, AllocError> {
-    format!(in alloc; "M1,00:00:00,00:00:00,S{number},{number}\n")
+fn digits(alloc: Global, number: u32) -> Result<String, AllocError> {
+    format!(in alloc; "{number}")
+}
+
+// Appends the line of a stop time, which is at midnight.
+fn put_visit(text: &mut String, number: &str) -> Result<(), AllocError> {
+    text.push_str("M1,00:00:00,00:00:00,S")?;
+    text.push_str(number)?;
+    text.push_str(",")?;
+    text.push_str(number)?;
+    text.push_str("\n")
 }
 
 // A thousand stop times, one at each of the stops S1 to S1000.
 fn visits(alloc: Global) -> Result<String, AllocError> {
     let mut text = String::from_str(alloc, HEADER)?;
     for number in 1..1001 {
-        let line = visit(alloc, number)?;
-        text.push_str(line.as_str())?;
+        put_visit(&mut text, digits(alloc, number)?.as_str())?;
     }
     Ok(text)
 }
 
-fn timetable(alloc: Global) -> Result<Timetable, Fail> {
+// The files but for stop_times.txt.
+const FILES: [(&str, &str); 4] = [
+    ("many/agency.txt", "agency_id\n"),
+    ("many/stops.txt", "stop_id\n"),
+    ("many/routes.txt", "route_id\n"),
+    ("many/trips.txt", "route_id,service_id,trip_id\nR1,WK,M1\n"),
+];
+
+fn files(alloc: Global) -> Result<QuietFiles, AllocError> {
     let mut files = QuietFiles::new(alloc);
-    files.add("many/agency.txt", b"agency_id\n")?;
-    files.add("many/stops.txt", b"stop_id\n")?;
-    files.add("many/routes.txt", b"route_id\n")?;
-    files.add("many/trips.txt", b"route_id,service_id,trip_id\nR1,WK,M1\n")?;
-    let text = visits(alloc)?;
-    files.add("many/stop_times.txt", text.as_bytes())?;
+    for (name, text) in FILES {
+        files.add(name, text.as_bytes())?;
+    }
+    Ok(files)
+}
+
+fn timetable(alloc: Global) -> Result<Timetable, Fail> {
+    let mut files = files(alloc)?;
+    files.add("many/stop_times.txt", visits(alloc)?.as_bytes())?;
     Ok(Timetable::load(alloc, &mut files, "many")?)
 }
 
@@ -55,9 +73,16 @@ fn updates(alloc: Global) -> Result<Items<StopTimeUpdate>, AllocError> {
     Ok(items)
 }
 
-// Whether the rows of the stop with an index are by the update with that index.
+fn is_by(source: Source, index: usize) -> bool {
+    match source {
+        Source::Update(update) => update as usize == index,
+        Source::Blank | Source::Trip => false,
+    }
+}
+
+// Whether the row with an index is by the update of its stop. Each stop has two rows.
 fn is_late(row: &PredictionRow, index: usize) -> bool {
-    row.source == Source::Update((index / 2) as u32) && row.delay == Some((index / 2) as i128 + 1)
+    is_by(row.source, index / 2) && row.delay == Some((index / 2) as i128 + 1)
 }
 
 fn are_late(rows: &[PredictionRow]) -> bool {
