@@ -10,26 +10,26 @@ use timetable::Timetable;
 use trip_calendar::Zone;
 
 /// The header of stop_times.txt.
-const HEADER: &str = "trip_id,arrival_time,departure_time,stop_id,stop_sequence\n";
+const HEADER: &[u8] = b"trip_id,arrival_time,departure_time,stop_id,stop_sequence\n";
 
 fn digits(alloc: Global, number: u32) -> Result<String, AllocError> {
     format!(in alloc; "{number}")
 }
 
 // Appends the line of a stop time, which is at midnight.
-fn put_visit(text: &mut String, number: &str) -> Result<(), AllocError> {
-    text.push_str("M1,00:00:00,00:00:00,S")?;
-    text.push_str(number)?;
-    text.push_str(",")?;
-    text.push_str(number)?;
-    text.push_str("\n")
+fn put_visit(text: &mut Vec<u8>, number: &[u8]) -> Result<(), AllocError> {
+    text.extend_from_slice(b"M1,00:00:00,00:00:00,S")?;
+    text.extend_from_slice(number)?;
+    text.extend_from_slice(b",")?;
+    text.extend_from_slice(number)?;
+    text.extend_from_slice(b"\n")
 }
 
 // A thousand stop times, one at each of the stops S1 to S1000.
-fn visits(alloc: Global) -> Result<String, AllocError> {
-    let mut text = String::from_str(alloc, HEADER)?;
+fn visits(alloc: Global) -> Result<Vec<u8>, AllocError> {
+    let mut text = Vec::from_slice(alloc, HEADER)?;
     for number in 1..1001 {
-        put_visit(&mut text, digits(alloc, number)?.as_str())?;
+        put_visit(&mut text, digits(alloc, number)?.as_bytes())?;
     }
     Ok(text)
 }
@@ -52,7 +52,7 @@ fn files(alloc: Global) -> Result<QuietFiles, AllocError> {
 
 fn timetable(alloc: Global) -> Result<Timetable, Fail> {
     let mut files = files(alloc)?;
-    files.add("many/stop_times.txt", visits(alloc)?.as_bytes())?;
+    files.add("many/stop_times.txt", &visits(alloc)?)?;
     Ok(Timetable::load(alloc, &mut files, "many")?)
 }
 
