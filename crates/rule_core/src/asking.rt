@@ -272,7 +272,7 @@ pub(crate) fn cell_of<'a, A: Answers>(
     ensures { option_map cell_value result ≡ value_from (A.answers answers.now) (place_value place.entry) (map cell_value cells.now) cite }
 {
     match own_path(place, cite) {
-        Some(path) => within(answers.answer(AskRef::Cell(path))),
+        Some(path) => within(answers.cell(path)),
         None => match fact_of(answers, place, cells, cite) {
             Some(fact) => Some(fact.cell),
             None => None,

@@ -18,7 +18,7 @@ use crate::finding_list::FindingList;
 use crate::key::EntityKey;
 use crate::rules::Rules;
 use crate::schedule::table_answer;
-use feed_values::{CellRef, Entity, field_at};
+use feed_values::{CellRef, Entity, Path, field_at};
 use rt_outside::Steps;
 use std::alloc::{AllocError, Global};
 use std::sync::ledger::Ledger;
@@ -69,5 +69,9 @@ impl Answers for LocalAnswers<'_> {
             AskRef::Occurrence => Some(CellRef::Number(self.key.occurrence as i128)),
             _ => table_answer(self.table, ask),
         }
+    }
+
+    fn cell<'a>(&'a self, path: Path) -> Option<CellRef<'a>> {
+        Some(field_at(self.entity, path))
     }
 }
