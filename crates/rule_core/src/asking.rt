@@ -247,6 +247,8 @@ fn own_path(place: PlaceRef<'_>, cite: Cite) -> Option<Path>
             Cite::Place => Some(path),
             Cite::Cell(slot) => Some(path_of(slot, path.index)),
             Cite::Before(slot) => Some(path_of(slot, path.index.saturating_sub(1))),
+            Cite::Delay => Some(path_of(delay(path.slot), path.index)),
+            Cite::Time => Some(path_of(time(path.slot), path.index)),
             _ => None,
         },
     }
