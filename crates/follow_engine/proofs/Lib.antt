@@ -1,0 +1,11 @@
+pub mod Walked
+pub mod SeatedNext
+pub mod RowsAt
+pub mod RowsBelow
+pub mod Concerned
+pub mod Judged
+pub mod Under
+pub mod Sums
+pub mod Unchanged
+pub mod Nexts
+pub mod RowsOfAll
