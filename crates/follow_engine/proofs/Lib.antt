@@ -9,3 +9,8 @@ pub mod Sums
 pub mod Unchanged
 pub mod Nexts
 pub mod RowsOfAll
+pub mod Applied
+pub mod TextSets
+pub mod FactsEnd
+pub mod SeatValues
+pub mod IdsChanged

@@ -35,6 +35,41 @@ pub keys_of : (f : ℕ) (n : Option Snapshot) → IsLastOf f n → Each (λ e. e
 keys_of f None l = tt
 keys_of f (Some s) l = subst (λ g. Each (λ e. e.0.feed ≡ g) (entities_in s.feed s.bytes)) l (entities_feed s.feed s.bytes)
 
+module _ (s : Snapshot) (old mid : List HeldFeed) (a : Arrival) (rooms : AreRooms old) (come : HasCome s old mid a) where
+  pub last_mid : (g : ℕ) → (feed_at mid g).last ≡ cond (s.feed == g) (Some s) (feed_at old g).last
+  last_mid g = ap (λ r. r.last) (come.held_is g) ∙ either (s.feed == g)
+    where
+      either : (b : Bool) → (cond b (with_last s (feed_at old g)) (feed_at old g)).last ≡ cond b (Some s) (feed_at old g).last
+      either true = refl
+      either false = refl
+
+  pub header_mid : (g : ℕ) → (feed_at mid g).header ≡ (feed_at old g).header
+  header_mid g = ap (λ r. r.header) (come.held_is g) ∙ either (s.feed == g)
+    where
+      either : (b : Bool) → (cond b (with_last s (feed_at old g)) (feed_at old g)).header ≡ (feed_at old g).header
+      either true = refl
+      either false = refl
+
+  pub entities_mid : (g : ℕ) → (feed_at mid g).entities ≡ (feed_at old g).entities
+  entities_mid g = ap (λ r. r.entities) (come.held_is g) ∙ either (s.feed == g)
+    where
+      either : (b : Bool) → (cond b (with_last s (feed_at old g)) (feed_at old g)).entities ≡ (feed_at old g).entities
+      either true = refl
+      either false = refl
+
+  pub own_mid : (g : ℕ) → IsLastOf g (feed_at mid g).last
+  own_mid g = subst (IsLastOf g) (sym (last_mid g)) (either (s.feed == g) refl)
+    where
+      either : (b : Bool) → (s.feed == g) ≡ b → IsLastOf g (cond b (Some s) (feed_at old g).last)
+      either true e = eqb-true s.feed g e
+      either false e = (rooms.own g).last_of
+
+  itself : (s.feed == s.feed) ≡ true
+  itself = eq-eqb s.feed s.feed refl
+
+  pub last_here : (feed_at mid s.feed).last ≡ Some s
+  last_here = last_mid s.feed ∙ ap (λ b. cond b (Some s) (feed_at old s.feed).last) itself
+
 module _ (t : Option Tables) (applied : ℕ) (s : Snapshot) (old mid new : List HeldFeed) (a : Arrival) (u : List PairRow)
     (rooms : AreRooms old) (fits : s.feed < 16) (come : HasCome s old mid a)
     (rows_are : (f : ℕ) → entities_found t u (feed_at mid f).last ≡ entities_found t (rows_held (feed_at mid)) (feed_at mid f).last)
@@ -54,42 +89,23 @@ module _ (t : Option Tables) (applied : ℕ) (s : Snapshot) (old mid new : List 
   at_new : (g : ℕ) → feed_at new g ≡ nf (feed_at mid g)
   at_new g = ap (λ xs. feed_at xs g) new_is ∙ get_or-map nf mid g nothing
 
-  last_mid : (g : ℕ) → (feed_at mid g).last ≡ cond (s.feed == g) (Some s) (feed_at old g).last
-  last_mid g = ap (λ r. r.last) (come.held_is g) ∙ either (s.feed == g)
-    where
-      either : (b : Bool) → (cond b (with_last s (feed_at old g)) (feed_at old g)).last ≡ cond b (Some s) (feed_at old g).last
-      either true = refl
-      either false = refl
+  abbrev mid_last : (g : ℕ) → (feed_at mid g).last ≡ cond (s.feed == g) (Some s) (feed_at old g).last
+  mid_last = last_mid s old mid a rooms come
 
-  header_mid : (g : ℕ) → (feed_at mid g).header ≡ (feed_at old g).header
-  header_mid g = ap (λ r. r.header) (come.held_is g) ∙ either (s.feed == g)
-    where
-      either : (b : Bool) → (cond b (with_last s (feed_at old g)) (feed_at old g)).header ≡ (feed_at old g).header
-      either true = refl
-      either false = refl
+  abbrev mid_header : (g : ℕ) → (feed_at mid g).header ≡ (feed_at old g).header
+  mid_header = header_mid s old mid a rooms come
 
-  entities_mid : (g : ℕ) → (feed_at mid g).entities ≡ (feed_at old g).entities
-  entities_mid g = ap (λ r. r.entities) (come.held_is g) ∙ either (s.feed == g)
-    where
-      either : (b : Bool) → (cond b (with_last s (feed_at old g)) (feed_at old g)).entities ≡ (feed_at old g).entities
-      either true = refl
-      either false = refl
+  abbrev mid_entities : (g : ℕ) → (feed_at mid g).entities ≡ (feed_at old g).entities
+  mid_entities = entities_mid s old mid a rooms come
+
+  abbrev mid_own : (g : ℕ) → IsLastOf g (feed_at mid g).last
+  mid_own = own_mid s old mid a rooms come
+
+  abbrev here_last : (feed_at mid s.feed).last ≡ Some s
+  here_last = last_here s old mid a rooms come
 
   last_new : (g : ℕ) → (feed_at new g).last ≡ (feed_at mid g).last
   last_new g = ap (λ r. r.last) (at_new g)
-
-  own_mid : (g : ℕ) → IsLastOf g (feed_at mid g).last
-  own_mid g = subst (IsLastOf g) (sym (last_mid g)) (either (s.feed == g) refl)
-    where
-      either : (b : Bool) → (s.feed == g) ≡ b → IsLastOf g (cond b (Some s) (feed_at old g).last)
-      either true e = eqb-true s.feed g e
-      either false e = (rooms.own g).last_of
-
-  self : (s.feed == s.feed) ≡ true
-  self = eq-eqb s.feed s.feed refl
-
-  last_here : (feed_at mid s.feed).last ≡ Some s
-  last_here = last_mid s.feed ∙ ap (λ b. cond b (Some s) (feed_at old s.feed).last) self
 
   same_rows : rows_held (feed_at mid) ≡ rows_held (feed_at new)
   same_rows = below-same (λ g. rows_in (entities_of_snapshot (feed_at mid g).last)) (λ g. rows_in (entities_of_snapshot (feed_at new g).last)) feed_limit (λ g l. ap (λ n. rows_in (entities_of_snapshot n)) (sym (last_new g)))
@@ -97,13 +113,13 @@ module _ (t : Option Tables) (applied : ℕ) (s : Snapshot) (old mid new : List 
   header_here : (feed_at new s.feed).header ≡ renewed (feed_at old s.feed).header applied (head_found s (feed_at old s.feed).last)
   header_here =
       ap (λ r. r.header) (at_new s.feed)
-      ∙ ap (λ n. next_header a.feed a.before applied n (feed_at mid s.feed).header) last_here
+      ∙ ap (λ n. next_header a.feed a.before applied n (feed_at mid s.feed).header) here_last
       ∙ ap (λ b. cond b (renewed (feed_at mid s.feed).header applied (head_found s a.before)) (feed_at mid s.feed).header) (eq-eqb s.feed a.feed (sym come.feed_is))
-      ∙ ap (λ xs. renewed xs applied (head_found s a.before)) (header_mid s.feed)
+      ∙ ap (λ xs. renewed xs applied (head_found s a.before)) (mid_header s.feed)
       ∙ ap (λ b. renewed (feed_at old s.feed).header applied (head_found s b)) come.before_is
 
   headers_there : (g : ℕ) → (s.feed == g) ≡ false → (feed_at new g).header ≡ (feed_at old g).header
-  headers_there g e = ap (λ r. r.header) (at_new g) ∙ stays (feed_at mid g).last (own_mid g) ∙ header_mid g
+  headers_there g e = ap (λ r. r.header) (at_new g) ∙ stays (feed_at mid g).last (mid_own g) ∙ mid_header g
     where
       apart : (p : Snapshot) → p.feed ≡ g → (p.feed == a.feed) ≡ false
       apart p q = ap (λ n. n == a.feed) q ∙ ap (λ n. g == n) come.feed_is ∙ turned g s.feed e
@@ -118,7 +134,7 @@ module _ (t : Option Tables) (applied : ℕ) (s : Snapshot) (old mid new : List 
   entities_there : (g : ℕ) → (feed_at new g).entities ≡ renewed_lists (feed_at old g).entities applied (entities_found t (rows_held (feed_at new)) (feed_at new g).last)
   entities_there g =
       ap (λ r. r.entities) (at_new g)
-      ∙ ap (λ xs. renewed_lists xs applied (entities_found t u (feed_at mid g).last)) (entities_mid g)
+      ∙ ap (λ xs. renewed_lists xs applied (entities_found t u (feed_at mid g).last)) (mid_entities g)
       ∙ ap (renewed_lists (feed_at old g).entities applied) (rows_are g)
       ∙ ap (λ v. renewed_lists (feed_at old g).entities applied (entities_found t v (feed_at mid g).last)) same_rows
       ∙ ap (λ n. renewed_lists (feed_at old g).entities applied (entities_found t (rows_held (feed_at new)) n)) (sym (last_new g))
@@ -126,7 +142,7 @@ module _ (t : Option Tables) (applied : ℕ) (s : Snapshot) (old mid new : List 
   pub is_next : IsNext t applied s (feed_at old) (feed_at new)
   is_next = record {
     feed = within;
-    last = λ g. last_new g ∙ last_mid g;
+    last = λ g. last_new g ∙ mid_last g;
     header = header_here;
     headers_stay = headers_there;
     entities = entities_there;
@@ -143,7 +159,7 @@ module _ (t : Option Tables) (applied : ℕ) (s : Snapshot) (old mid new : List 
   opened_there =
       flat-below (λ r. opened_in r (nf r)) mid nothing refl mid_few
       ∙ below-same (λ g. opened_in (feed_at mid g) (nf (feed_at mid g))) (λ g. opened_in (feed_at old g) (feed_at new g)) feed_limit
-      (λ g l. ap (opened_in (feed_at mid g)) (sym (at_new g)) ∙ same (feed_at mid g) (feed_at old g) (feed_at new g) (header_mid g) (entities_mid g))
+      (λ g l. ap (opened_in (feed_at mid g)) (sym (at_new g)) ∙ same (feed_at mid g) (feed_at old g) (feed_at new g) (mid_header g) (mid_entities g))
     where
       same : (v w x : HeldFeed) → v.header ≡ w.header → v.entities ≡ w.entities → opened_in v x ≡ opened_in w x
       same v w x p q =
@@ -154,7 +170,7 @@ module _ (t : Option Tables) (applied : ℕ) (s : Snapshot) (old mid new : List 
   closed_there =
       flat-below (λ r. closed_in r (nf r)) mid nothing refl mid_few
       ∙ below-same (λ g. closed_in (feed_at mid g) (nf (feed_at mid g))) (λ g. closed_in (feed_at old g) (feed_at new g)) feed_limit
-      (λ g l. ap (closed_in (feed_at mid g)) (sym (at_new g)) ∙ same (feed_at mid g) (feed_at old g) (feed_at new g) (header_mid g) (entities_mid g))
+      (λ g l. ap (closed_in (feed_at mid g)) (sym (at_new g)) ∙ same (feed_at mid g) (feed_at old g) (feed_at new g) (mid_header g) (mid_entities g))
     where
       same : (v w x : HeldFeed) → v.header ≡ w.header → v.entities ≡ w.entities → closed_in v x ≡ closed_in w x
       same v w x p q =
@@ -182,8 +198,8 @@ module _ (t : Option Tables) (applied : ℕ) (s : Snapshot) (old mid new : List 
       total-below (tested_in a.feed a.before) mid nothing refl mid_few
       ∙ sum-one (λ g. tested_in a.feed a.before (feed_at mid g)) s.feed feed_limit
       (λ g l n. count-none (is_fresh a.feed a.before) (entities_of_snapshot (feed_at mid g).last)
-      (each_weaken (λ e. e.0.feed ≡ g) (λ e. is_fresh a.feed a.before e ≡ false) (λ e q. none_and _ _ (far g e n q)) (entities_of_snapshot (feed_at mid g).last) (keys_of g (feed_at mid g).last (own_mid g)))) within
-      ∙ ap (λ n. count_of (is_fresh a.feed a.before) (entities_of_snapshot n)) last_here
+      (each_weaken (λ e. e.0.feed ≡ g) (λ e. is_fresh a.feed a.before e ≡ false) (λ e q. none_and _ _ (far g e n q)) (entities_of_snapshot (feed_at mid g).last) (keys_of g (feed_at mid g).last (mid_own g)))) within
+      ∙ ap (λ n. count_of (is_fresh a.feed a.before) (entities_of_snapshot n)) here_last
       ∙ count-same (is_fresh a.feed a.before) (is_new (feed_at old s.feed)) (entities_in s.feed s.bytes)
       (each_weaken (λ e. e.0.feed ≡ s.feed) (λ e. is_fresh a.feed a.before e ≡ is_new (feed_at old s.feed) e) fresh_here (entities_in s.feed s.bytes) (entities_feed s.feed s.bytes))
 
@@ -227,10 +243,10 @@ module _ (t : Option Tables) (applied : ℕ) (s : Snapshot) (old mid new : List 
   bounded_there =
       total-below (λ r. bounded_in a.feed a.before r (nf r)) mid nothing refl mid_few
       ∙ sum-one (λ g. bounded_in a.feed a.before (feed_at mid g) (nf (feed_at mid g))) s.feed feed_limit
-      (λ g l n. bounded_else g n (feed_at mid g).last (own_mid g) (feed_at mid g).entities (nf (feed_at mid g)).entities) within
+      (λ g l n. bounded_else g n (feed_at mid g).last (mid_own g) (feed_at mid g).entities (nf (feed_at mid g)).entities) within
       ∙ ap (λ r. bounded_of a.feed a.before (feed_at mid s.feed).last (feed_at mid s.feed).entities r.entities) (sym (at_new s.feed))
-      ∙ ap (λ n. bounded_of a.feed a.before n (feed_at mid s.feed).entities (feed_at new s.feed).entities) last_here
-      ∙ ap (λ xs. bounded_of a.feed a.before (Some s) xs (feed_at new s.feed).entities) (entities_mid s.feed)
+      ∙ ap (λ n. bounded_of a.feed a.before n (feed_at mid s.feed).entities (feed_at new s.feed).entities) here_last
+      ∙ ap (λ xs. bounded_of a.feed a.before (Some s) xs (feed_at new s.feed).entities) (mid_entities s.feed)
       ∙ count-same (λ e. is_fresh a.feed a.before e || is_bounded a.feed a.before s (feed_at old s.feed).entities (feed_at new s.feed).entities e.0) (λ e. is_new (feed_at old s.feed) e || is_limited s (feed_at old s.feed) (feed_at new s.feed) e) (entities_in s.feed s.bytes)
       (each_weaken (λ e. e.0.feed ≡ s.feed) (λ e. (is_fresh a.feed a.before e || is_bounded a.feed a.before s (feed_at old s.feed).entities (feed_at new s.feed).entities e.0) ≡ (is_new (feed_at old s.feed) e || is_limited s (feed_at old s.feed) (feed_at new s.feed) e))
       bounded_here (entities_in s.feed s.bytes) (entities_feed s.feed s.bytes))

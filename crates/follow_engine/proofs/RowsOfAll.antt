@@ -1,11 +1,12 @@
 -- An index of the pairing rows of all feeds, beside these rows in the order of their keys.
-use Rattle.std.specs.Prelude.{◌≡◌, ℕ, zero, suc, ◌<◌, ◌≤◌, Bool, true, false, not, List, [], ◌∷◌, ◌++◌, map, filter, length, get_or, Option, Some, None, refl, ◌⊎◌}
+use Rattle.std.specs.Prelude.{◌≡◌, ℕ, zero, suc, ◌+◌, ◌<◌, ◌≤◌, Bool, true, false, not, List, [], ◌∷◌, ◌++◌, map, filter, drop, length, get_or, Option, Some, None, refl, ◌⊎◌}
 use Rattle.std.specs.List.{flat_map}
 use Rattle.std.specs.declared.cmp.Ordering.TheVariants.{Less}
 use Rattle.std.specs.Ordering.{nat_cmp, ordering_then}
+use Rattle.std.specs.Cmp.Lexicographic.{slice_cmp}
 use Rattle.std.proofs.Common.{inl, inr, sym, ap, ◌∙◌, subst, arith, append-nil, append_assoc}
 use Rattle.std.proofs.Math.Nat.{eq-or-lt_of_le}
-use Rattle.std.proofs.lemmas.List.{get_or_past}
+use Rattle.std.proofs.lemmas.List.{get_or_past, drop_more, drop_all}
 use Rattle.std.proofs.lemmas.List.Elements.{filter-append}
 use Rattle.std.proofs.lemmas.List.Folds.{flat_map-map}
 use Rattle.feed_values.specs.Snapshot.{entity_of}
@@ -19,7 +20,7 @@ use Rattle.rule_core.specs.Found.{Found}
 use Rattle.rule_core.specs.Groups.{Each, IsUnder}
 use Rattle.rule_core.specs.GroupLaws.{each_append, each_weaken}
 use Rattle.rule_core.specs.Pairs.{PairRow, rows_of}
-use Rattle.rule_core.specs.History.{Snapshot, Keyed, entities_in, entities_of_snapshot, below, feed_limit, feed_limit-is}
+use Rattle.rule_core.specs.History.{Snapshot, Keyed, entities_in, entities_of_snapshot, below, feed_limit, feed_limit-is, ordered_after}
 use Rattle.rule_core.specs.Answered.{Heads, heads_of}
 use Rattle.judging.specs.Seats as seat
 use Rattle.judging.specs.Whole as whole
@@ -28,10 +29,11 @@ use Rattle.engine_laws.specs.Order.{Rises}
 use Rattle.engine_laws.specs.HeldFeeds.{HeldFeed, IsLastOf, feed_at, rows_held, entity_found, entities_found}
 use Rattle.engine_laws.proofs.Lists.{both, map-same, filter-all, filter-none, rises_below, flat-same, every}
 use Rattle.engine_laws.proofs.Places.{flat-below}
-use Rattle.engine_laws.proofs.Sorted.{Rising, entities_rise, less_other}
+use Rattle.engine_laws.proofs.Sorted.{Rising, entities_rise, less_other, ordered-rising}
 use Rattle.engine_laws.proofs.Spots.{key_self}
 use Rattle.engine_laws.proofs.Ascending.{entity_under, nat_less}
-use Rattle.follow_engine.specs.Rooms.{nothing, AreRooms}
+use Rattle.follow_engine.specs.Rooms.{nothing, held, feeds_of, AreRooms}
+use Rattle.follow_engine.proofs.SeatValues.{ordered-append}
 use Rattle.follow_engine.specs.Rowed.{value_of, values_of, all_values, room_rows, all_rows}
 use Rattle.follow_engine.proofs.Judged.{entity_is}
 use Rattle.follow_engine.proofs.Nexts.{keys_of}
@@ -163,10 +165,13 @@ module _ (feeds : List HeldFeed) (rooms : AreRooms feeds) where
       (rises_below (λ (d e : Keyed). key_cmp d.0 e.0) (λ (e : Keyed). e.0.feed) (λ d e l. less d e l) part part_rises (λ g. keys_of g (feed_at feeds g).last (rooms.own g).last_of) feed_limit).0
     where
       less : (d e : Keyed) → d.0.feed < e.0.feed → key_cmp d.0 e.0 ≡ Less
-      less d e l = ap (λ o. ordering_then o (ordering_then _ _)) (nat_less d.0.feed e.0.feed l)
+      less d e l = ap (λ o. ordering_then o (ordering_then (slice_cmp nat_cmp d.0.id e.0.id) (nat_cmp d.0.occurrence e.0.occurrence))) (nat_less d.0.feed e.0.feed l)
 
   pub values_rise : seat.Rising (all_values feeds)
   values_rise = rises_to (all_values feeds) (subst (λ (es : List seat.Seat). Rising es) (sym (values-keyed feeds)) (rises_value (all_keyed feeds) keyed_rise))
+
+  pub values_ordered : ordered_after [] (all_values feeds) ≡ all_values feeds
+  values_ordered = ordered-rising (all_values feeds) (subst (λ (es : List seat.Seat). Rising es) (sym (values-keyed feeds)) (rises_value (all_keyed feeds) keyed_rise))
 
   rows-values : seat_rows (all_values feeds) ≡ rows_held (feed_at feeds)
   rows-values = ap seat_rows (values-keyed feeds) ∙ flat_map-map (λ e. rows_of e.0 e.1) value_of (all_keyed feeds) ∙ rows-keyed feeds ∙ rows-below
@@ -211,3 +216,15 @@ module _ (feeds : List HeldFeed) (rooms : AreRooms feeds) where
           where
             pair : (k : EntityKey) {xs ys : List Found} → xs ≡ ys → (let p : EntityKey × List Found = (k, xs) in p) ≡ (k, ys)
             pair k h = cc
+
+-- one feed more
+pub rooms_step : (rooms : List (Option HeldFeed)) (i : ℕ) (r : Option HeldFeed) (a b to : List seat.Seat) → i < length rooms → r ≡ get_or rooms i r → b ≡ ordered_after a (values_of (held r)) →
+    ordered_after a (all_values (feeds_of (drop i rooms))) ≡ to → ordered_after b (all_values (feeds_of (drop (i + 1) rooms))) ≡ to
+rooms_step rooms i r a b to l is put before =
+    ap (λ xs. ordered_after xs (all_values (feeds_of (drop (i + 1) rooms)))) put
+    ∙ sym (ordered-append a (values_of (held r)) (all_values (feeds_of (drop (i + 1) rooms))))
+    ∙ sym (ap (λ xs. ordered_after a (all_values (feeds_of xs))) (drop_more rooms i r l ∙ ap (λ y. y ∷ drop (i + 1) rooms) (sym is)))
+    ∙ before
+
+pub rooms_end : (rooms : List (Option HeldFeed)) (i : ℕ) (a : List seat.Seat) → AreRooms (feeds_of rooms) → length rooms ≤ i → ordered_after a (all_values (feeds_of (drop i rooms))) ≡ ordered_after [] (all_values (feeds_of rooms)) → a ≡ all_values (feeds_of rooms)
+rooms_end rooms i a are l h = sym (ap (λ xs. ordered_after a (all_values (feeds_of xs))) (drop_all i rooms l)) ∙ h ∙ values_ordered (feeds_of rooms) are

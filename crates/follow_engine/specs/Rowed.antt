@@ -8,6 +8,11 @@ use Rattle.rule_core.specs.History.{Keyed, Snapshot, entities_of_snapshot}
 use Rattle.rule_core.specs.Answered.{rows_in}
 use Rattle.judging.specs.Seats.{Seat}
 use Rattle.engine_laws.specs.HeldFeeds.{HeldFeed}
+use Rattle.feed_values.specs.Schema.{Value}
+use Rattle.feed_values.specs.Messages.{entity}
+use Rattle.feed_values.specs.Views.{entity_value}
+use Rattle.rule_core.specs.declared.key.EntityKey.{EntityKey}
+use Rattle.follow_engine.specs.Seated.{Seats}
 
 abbrev pub value_of : Keyed → Seat
 value_of e = (e.0, entity_of e.1)
@@ -24,3 +29,7 @@ room_rows room = rows_in (entities_of_snapshot room.last)
 
 abbrev pub all_rows : List HeldFeed → List PairRow
 all_rows feeds = flat_map room_rows feeds
+
+-- entities that are seated, by value
+abbrev pub seats_values : Seats → List Seat
+seats_values es = map {B = EntityKey × Value entity} (λ e. (e.0, entity_value e.1.entity)) es

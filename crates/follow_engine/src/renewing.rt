@@ -4,7 +4,8 @@ ghost use Rattle.rule_core.specs.Answered.{tables_of};
 ghost use Rattle.rule_core.specs.Standing.{opened};
 ghost use Rattle.engine_laws.specs.Order.{found_cmp, Rises};
 ghost use Rattle.engine_laws.specs.Standings.{findings_of, renewed};
-ghost use Rattle.engine_laws.specs.HeldFeeds.{entity_found, head_found, entities_found, renewed_lists, list_under};
+ghost use Rattle.engine_laws.specs.HeldFeeds.{head_found, entities_found, renewed_lists, list_under};
+ghost use Rattle.follow_engine.specs.Found.{found_at};
 ghost use Rattle.std.specs.List.{flat_map};
 ghost use Rattle.follow_engine.specs.Deltas.{all_opened};
 ghost use Rattle.follow_engine.specs.Rooms.{IsInOrder, ListsInOrder};
@@ -95,8 +96,8 @@ fn renew_entity<P: PairView, T: Ledger>(
 ) -> Result<Items<Standing>, AllocError>
     requires old { IsInOrder old.now }
     requires seat { IsSeat taken.now.bytes seat.now }
-    requires found { Rises found_cmp (entity_found (tables_of table.now) (P.rows rows.now) taken.now (key.now, seat_payload taken.now.bytes seat.now)) }
-    ensures list { IfOk result (λ list. list ≡ renewed old.now applied (entity_found (tables_of table.now) (P.rows rows.now) taken.now (key.now, seat_payload taken.now.bytes seat.now))) }
+    requires found { Rises found_cmp (found_at (tables_of table.now) (P.rows rows.now) taken.now (key.now, seat_payload taken.now.bytes seat.now)) }
+    ensures list { IfOk result (λ list. list ≡ renewed old.now applied (found_at (tables_of table.now) (P.rows rows.now) taken.now (key.now, seat_payload taken.now.bytes seat.now))) }
     ensures ordered { IfOk result IsInOrder }
 {
     let found = rules.judge_entity(

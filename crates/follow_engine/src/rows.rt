@@ -4,7 +4,7 @@ ghost use Rattle.timetable.specs.Timetables.{Tables};
 ghost use Rattle.rule_core.specs.History.{ordered_after};
 ghost use Rattle.judging.specs.Seats.{seat_values};
 ghost use Rattle.engine_laws.specs.HeldFeeds.{entities_found, feed_at, rows_held};
-ghost use Rattle.follow_engine.specs.Rooms.{AreRooms, feeds_of};
+ghost use Rattle.follow_engine.specs.Rooms.{AreRooms, held, feeds_of};
 ghost use Rattle.follow_engine.specs.Rowed.{values_of, all_values};
 
 use crate::room::Room;
@@ -31,6 +31,19 @@ fn put_entities<'a>(
     Ok(all)
 }
 
+fn put_room<'a>(
+    alloc: Global,
+    room: &'a Option<Room>,
+    all: BTreeMap<EntityKey, &'a Entity>,
+) -> Result<BTreeMap<EntityKey, &'a Entity>, AllocError>
+    ensures { IfOk result (λ found. seat_values found.entries ≡ ordered_after (seat_values all.entry.entries) (values_of (held room.now))) }
+{
+    match room {
+        None => Ok(all),
+        Some(room) => put_entities(alloc, room, all),
+    }
+}
+
 /// The entities of all feeds under their keys.
 fn all_entities<'a>(
     alloc: Global,
@@ -41,10 +54,7 @@ fn all_entities<'a>(
 {
     let mut all = BTreeMap::new(alloc);
     for room in rooms {
-        match room {
-            None => {}
-            Some(room) => all = put_entities(alloc, room, all)?,
-        }
+        all = put_room(alloc, room, all)?;
     }
     Ok(all)
 }

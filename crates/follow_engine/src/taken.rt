@@ -110,7 +110,7 @@ impl Taken {
     {
         match self.seats.get(key) {
             None => true,
-            Some(seat) => self.kept.entity(seat.place) != payload,
+            Some(seat) => payload != self.kept.entity(seat.place),
         }
     }
 
