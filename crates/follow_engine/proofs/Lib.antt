@@ -14,3 +14,5 @@ pub mod TextSets
 pub mod FactsEnd
 pub mod SeatValues
 pub mod IdsChanged
+pub mod OneRoom
+pub mod HasArrived

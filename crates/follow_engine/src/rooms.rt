@@ -45,7 +45,8 @@ fn next_header<T: Ledger>(
     ensures opens { IfOk result (λ list. all_opened opens.new ≡ all_opened opens.old ++ opened (findings_of header) list) }
     ensures closes { IfOk result (λ list. all_closed closes.new ≡ all_closed closes.old ++ closed (findings_of header) (findings_of list)) }
 {
-    if taken.feed() != arrival.feed {
+    let feed = taken.feed();
+    if feed != arrival.feed {
         return Ok(header);
     }
     let old = header.as_slice();
