@@ -88,26 +88,26 @@ swapped false true false h = refl
 swapped false false true h = refl
 swapped false false false h = refl
 
--- a later one
-pub later_ids : (s o : Snapshot) (m n : SeatMap) → AreSeats s.feed s.bytes m.entries → AreSeats o.feed o.bytes n.entries → (zero went ids : ChangedIds) → ((q : List ℕ) → has_text zero.trips q ≡ false) → ((q : List ℕ) → has_text zero.vehicles q ≡ false) →
+-- a later one; the maps may be other ones at the second walk
+pub later_ids : (s o : Snapshot) (m n k l : SeatMap) → AreSeats s.feed s.bytes m.entries → AreSeats o.feed o.bytes n.entries → AreSeats s.feed s.bytes k.entries → AreSeats o.feed o.bytes l.entries → (zero went ids : ChangedIds) → ((q : List ℕ) → has_text zero.trips q ≡ false) → ((q : List ℕ) → has_text zero.vehicles q ≡ false) →
     ((q : List ℕ) → has_text went.trips q ≡ (has_text zero.trips q || list_any (seat_trip q (Some m)) n.entries)) → ((q : List ℕ) → has_text went.vehicles q ≡ (has_text zero.vehicles q || list_any (seat_vehicle q (Some m)) n.entries)) →
-    ((q : List ℕ) → has_text ids.trips q ≡ (has_text went.trips q || list_any (seat_trip q (Some n)) m.entries)) → ((q : List ℕ) → has_text ids.vehicles q ≡ (has_text went.vehicles q || list_any (seat_vehicle q (Some n)) m.entries)) →
+    ((q : List ℕ) → has_text ids.trips q ≡ (has_text went.trips q || list_any (seat_trip q (Some l)) k.entries)) → ((q : List ℕ) → has_text ids.vehicles q ≡ (has_text went.vehicles q || list_any (seat_vehicle q (Some l)) k.entries)) →
     GiveIds ids (changed_rows (rows_in (entities_in o.feed o.bytes)) (rows_in (entities_in s.feed s.bytes)))
-later_ids s o m n are old zero went ids nt nv wt wv ht hv = record {
+later_ids s o m n k l are old are2 old2 zero went ids nt nv wt wv ht hv = record {
   trips_are = λ q.
-      ht q ∙ ap (λ b. b || list_any (seat_trip q (Some n)) m.entries) (wt q) ∙ swapped (has_text zero.trips q) (list_any (seat_trip q (Some m)) n.entries) (list_any (seat_trip q (Some n)) m.entries) (nt q)
-      ∙ ap (λ b. b || list_any (seat_trip q (Some m)) n.entries) (trip_new q s.feed s.bytes m are (Some n) (entities_in o.feed o.bytes) (apart_in o.feed o.bytes) in_old)
+      ht q ∙ ap (λ b. b || list_any (seat_trip q (Some l)) k.entries) (wt q) ∙ swapped (has_text zero.trips q) (list_any (seat_trip q (Some m)) n.entries) (list_any (seat_trip q (Some l)) k.entries) (nt q)
+      ∙ ap (λ b. b || list_any (seat_trip q (Some m)) n.entries) (trip_new q s.feed s.bytes k are2 (Some l) (entities_in o.feed o.bytes) (apart_in o.feed o.bytes) in_old)
       ∙ ap (λ b. list_any (λ c. is_id q c.trip) (filter (λ r. not (has_row (rows_in (entities_in o.feed o.bytes)) r)) (rows_in (entities_in s.feed s.bytes))) || b) (trip_new q o.feed o.bytes n old (Some m) (entities_in s.feed s.bytes) (apart_in s.feed s.bytes) in_new)
       ∙ sym (any-append (λ (c : PairRow). is_id q c.trip) (filter (λ r. not (has_row (rows_in (entities_in o.feed o.bytes)) r)) (rows_in (entities_in s.feed s.bytes))) (filter (λ r. not (has_row (rows_in (entities_in s.feed s.bytes)) r)) (rows_in (entities_in o.feed o.bytes))));
   vehicles_are = λ q.
-      hv q ∙ ap (λ b. b || list_any (seat_vehicle q (Some n)) m.entries) (wv q) ∙ swapped (has_text zero.vehicles q) (list_any (seat_vehicle q (Some m)) n.entries) (list_any (seat_vehicle q (Some n)) m.entries) (nv q)
-      ∙ ap (λ b. b || list_any (seat_vehicle q (Some m)) n.entries) (vehicle_new q s.feed s.bytes m are (Some n) (entities_in o.feed o.bytes) (apart_in o.feed o.bytes) in_old)
+      hv q ∙ ap (λ b. b || list_any (seat_vehicle q (Some l)) k.entries) (wv q) ∙ swapped (has_text zero.vehicles q) (list_any (seat_vehicle q (Some m)) n.entries) (list_any (seat_vehicle q (Some l)) k.entries) (nv q)
+      ∙ ap (λ b. b || list_any (seat_vehicle q (Some m)) n.entries) (vehicle_new q s.feed s.bytes k are2 (Some l) (entities_in o.feed o.bytes) (apart_in o.feed o.bytes) in_old)
       ∙ ap (λ b. list_any (λ c. is_id q c.vehicle) (filter (λ r. not (has_row (rows_in (entities_in o.feed o.bytes)) r)) (rows_in (entities_in s.feed s.bytes))) || b) (vehicle_new q o.feed o.bytes n old (Some m) (entities_in s.feed s.bytes) (apart_in s.feed s.bytes) in_new)
       ∙ sym (any-append (λ (c : PairRow). is_id q c.vehicle) (filter (λ r. not (has_row (rows_in (entities_in o.feed o.bytes)) r)) (rows_in (entities_in s.feed s.bytes))) (filter (λ r. not (has_row (rows_in (entities_in s.feed s.bytes)) r)) (rows_in (entities_in o.feed o.bytes))));
 }
   where
-    in_old : (k : EntityKey) → entity_in (Some n) k ≡ option_map entity_of (payload_under k (entities_in o.feed o.bytes))
-    in_old k = entity_is o.bytes n old.decoded k ∙ ap (λ ks. option_map entity_of (payload_under k ks)) old.keyed
+    in_old : (x : EntityKey) → entity_in (Some l) x ≡ option_map entity_of (payload_under x (entities_in o.feed o.bytes))
+    in_old x = entity_is o.bytes l old2.decoded x ∙ ap (λ ks. option_map entity_of (payload_under x ks)) old2.keyed
 
-    in_new : (k : EntityKey) → entity_in (Some m) k ≡ option_map entity_of (payload_under k (entities_in s.feed s.bytes))
-    in_new k = entity_is s.bytes m are.decoded k ∙ ap (λ ks. option_map entity_of (payload_under k ks)) are.keyed
+    in_new : (x : EntityKey) → entity_in (Some m) x ≡ option_map entity_of (payload_under x (entities_in s.feed s.bytes))
+    in_new x = entity_is s.bytes m are.decoded x ∙ ap (λ ks. option_map entity_of (payload_under x ks)) are.keyed
