@@ -1,4 +1,5 @@
 use Rattle.std.proofs.Common.{◌≡◌, ◌<◌, List, Option, length, ap, ◌∙◌, sym, subst, refl, None, Some, get_or, slice_set}
+use Rattle.std.proofs.lemmas.List.{get_or_default}
 use Rattle.rule_core.specs.declared.kind.Kind.TheVariants.{TripUpdate, Vehicle}
 use Rattle.rule_core.specs.Changed.{differ}
 use Rattle.rule_core.specs.Pairs.{any_row}
@@ -15,7 +16,7 @@ returns c =
     subst (λ (xs : List (Option HeldFeed)). HasCome c.args.taken (feeds_of c.args.rooms.now.items) (feeds_of xs) a) (sym items)
     (has_come c.args.taken c.args.rooms.now.items c.make_place.new.rooms.items c.replace-old.result c.in_ok-room.field-0 a c.requires.rooms c.requires.feed c.in_ok-make_place.ensures.same
       (subst (λ p. p < length c.make_place.new.rooms.items) c.feed-feed.ensures c.in_ok-make_place.ensures.within) c.in_ok-make_place.ensures.few
-      (c.replace-old.ensures.value ∙ c.index_mut.ensures.value ∙ ap (λ p. get_or c.make_place.new.rooms.items p None) c.feed-feed.ensures)
+      (c.replace-old.ensures.value ∙ c.index_mut.ensures.value ∙ get_or_default c.make_place.new.rooms.items c.feed-feed.result c.index_mut.result.now None c.in_ok-make_place.ensures.within ∙ ap (λ p. get_or c.make_place.new.rooms.items p None) c.feed-feed.ensures)
       c.in_ok-room.ensures c.feed-feed.ensures refl refl
       (c.differ.ensures
         ∙ ap (λ b. differ b c.kinds_of-has.result.updates) (c.kinds_of-had.ensures.updates ∙ ap (λ v. any_row (all_rows (feeds_of v)) TripUpdate) c.deref.ensures.value)
