@@ -42,7 +42,7 @@ module _ (t : Option Tables) (applied : ℕ) (s : Snapshot) (old mid new : List 
     (rooms : AreRooms old) (fits : s.feed < 16) (come : HasCome s old mid a)
     (rows_are : (t : Option Tables) (f : ℕ) → entities_found t u (feed_at mid f).last ≡ entities_found t (rows_held (feed_at mid)) (feed_at mid f).last)
     (new_is : new ≡ map (next_feed t u a.feed a.before applied) mid) where
-  after : AreRooms new
+  pub after : AreRooms new
   after = new_rooms t applied s old mid new a u rooms fits come (rows_are t) new_is
 
   pub stands_new : (x : Option Tables) (h : List Snapshot) → StandsFor (data_of t applied old) x h → StandsFor (data_of t (applied + 1) new) x (with h s)
