@@ -12,3 +12,4 @@ pub mod Counted
 pub mod Arrived
 pub mod Engines
 pub mod Decoded
+pub mod Followed

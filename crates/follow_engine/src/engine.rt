@@ -8,15 +8,11 @@ ghost use Rattle.engine_laws.specs.Delta.{IsDelta};
 ghost use Rattle.engine_laws.specs.Standings.{StandsFor};
 ghost use Rattle.follow_engine.specs.Deltas.{delta_value};
 
-use crate::arriving::arrive;
-use crate::counting::Counts;
 use crate::delta::Delta;
 use crate::feeds::Feeds;
-use crate::rooms::renew_rooms;
-use crate::rows::rows_of_rooms;
+use crate::following::{Followed, follow};
 use crate::taken::Taken;
 use feed_stream::Kept;
-use feed_values::Items;
 use judging::AllRules;
 use rt_outside::Steps;
 use std::alloc::{AllocError, Global};
@@ -79,46 +75,14 @@ impl Engine {
             applied,
             feeds,
         } = self;
-        let Feeds { mut rooms } = feeds;
-        let entities = kept.len() as u64;
         let taken = Taken::new(alloc, feed, moment, kept, decodes)?;
-        let arrival = arrive(alloc, &mut rooms, taken)?;
-        let rows = rows_of_rooms(alloc, &rooms)?;
-        let mut opened = Items::new(alloc);
-        let mut closed = Items::new(alloc);
-        let mut counts = Counts {
-            tested: 0,
-            paired: 0,
-            bounded: 0,
-        };
-        let rooms = renew_rooms(
-            alloc,
-            &rules,
-            &table,
-            &rows,
-            &arrival,
-            rooms,
-            applied,
-            tests,
-            &mut opened,
-            &mut closed,
-            &mut counts,
-        )?;
+        let Followed { feeds, delta } = follow(alloc, &rules, &table, applied, feeds, taken, tests)?;
         let engine = Engine {
             alloc,
             table,
             rules,
             applied: applied + 1,
-            feeds: Feeds { rooms },
-        };
-        let delta = Delta {
-            snapshot: applied,
-            entities,
-            opened,
-            closed,
-            tested: counts.tested,
-            paired: counts.paired,
-            bounded: counts.bounded,
+            feeds,
         };
         Ok((engine, delta))
     }

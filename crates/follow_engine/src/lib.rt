@@ -8,6 +8,7 @@ mod counting;
 mod delta;
 mod engine;
 mod feeds;
+mod following;
 mod ids;
 mod kinds;
 mod order;
