@@ -1,0 +1,15 @@
+pub mod Deltas
+pub mod Parts
+pub mod Walked
+pub mod Ids
+pub mod Changes
+pub mod GivesIds
+pub mod Rooms
+pub mod Seated
+pub mod Found
+pub mod Rowed
+pub mod Counted
+pub mod Arrived
+pub mod Engines
+pub mod Decoded
+pub mod Followed
