@@ -54,7 +54,12 @@ impl ChangedIds {
     }
 
     /// Puts in the ids of a message, where it is there and another doesn't give the same ones.
-    fn put(&mut self, alloc: Global, ids: Option<Ids<'_>>, other: Option<Ids<'_>>) -> Result<(), AllocError>
+    fn put(
+        &mut self,
+        alloc: Global,
+        ids: Option<Ids<'_>>,
+        other: Option<Ids<'_>>,
+    ) -> Result<(), AllocError>
         ensures trips { OnOk result ((q : List ℕ) → has_text self.new.trips q ≡ (has_text self.old.trips q || new_trip q (option_map ids_value ids.entry) (option_map ids_value other.entry))) }
         ensures vehicles { OnOk result ((q : List ℕ) → has_text self.new.vehicles q ≡ (has_text self.old.vehicles q || new_vehicle q (option_map ids_value ids.entry) (option_map ids_value other.entry))) }
     {
@@ -72,7 +77,12 @@ impl ChangedIds {
     }
 
     /// Puts in the ids that an entity gives and another, where it is there, doesn't.
-    fn put_entity(&mut self, alloc: Global, entity: &Entity, other: Option<&Entity>) -> Result<(), AllocError>
+    fn put_entity(
+        &mut self,
+        alloc: Global,
+        entity: &Entity,
+        other: Option<&Entity>,
+    ) -> Result<(), AllocError>
         ensures trips { OnOk result ((q : List ℕ) → has_text self.new.trips q ≡ (has_text self.old.trips q || entity_trip q (entity_value entity.now) (option_map entity_value (option_copied other.entry)))) }
         ensures vehicles { OnOk result ((q : List ℕ) → has_text self.new.vehicles q ≡ (has_text self.old.vehicles q || entity_vehicle q (entity_value entity.now) (option_map entity_value (option_copied other.entry)))) }
     {
@@ -91,7 +101,12 @@ impl ChangedIds {
     }
 
     /// Puts in the ids that entities give and those with their keys among others don't.
-    pub fn put_seats(&mut self, alloc: Global, seats: &BTreeMap<EntityKey, Seat>, others: Option<&BTreeMap<EntityKey, Seat>>) -> Result<(), AllocError>
+    pub fn put_seats(
+        &mut self,
+        alloc: Global,
+        seats: &BTreeMap<EntityKey, Seat>,
+        others: Option<&BTreeMap<EntityKey, Seat>>,
+    ) -> Result<(), AllocError>
         ensures trips { OnOk result ((q : List ℕ) → has_text self.new.trips q ≡ (has_text self.old.trips q || list_any (seat_trip q (option_copied others.entry)) seats.now.entries)) }
         ensures vehicles { OnOk result ((q : List ℕ) → has_text self.new.vehicles q ≡ (has_text self.old.vehicles q || list_any (seat_vehicle q (option_copied others.entry)) seats.now.entries)) }
     {
@@ -112,7 +127,10 @@ impl ChangedIds {
 }
 
 /// The entity with a key among some.
-fn entity_in<'a>(seats: Option<&'a BTreeMap<EntityKey, Seat>>, key: &EntityKey) -> Option<&'a Entity>
+fn entity_in<'a>(
+    seats: Option<&'a BTreeMap<EntityKey, Seat>>,
+    key: &EntityKey,
+) -> Option<&'a Entity>
     ensures { option_map entity_value (option_copied result) ≡ entity_in (option_copied seats.entry) key.now }
 {
     match seats {

@@ -76,7 +76,9 @@ impl Engine {
             feeds,
         } = self;
         let taken = Taken::new(alloc, feed, moment, kept, decodes)?;
-        let Followed { feeds, delta } = follow(alloc, &rules, &table, applied, feeds, taken, tests)?;
+        let Followed { feeds, delta } = follow(
+            alloc, &rules, &table, applied, feeds, taken, tests,
+        )?;
         let engine = Engine {
             alloc,
             table,

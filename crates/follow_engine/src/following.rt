@@ -97,7 +97,9 @@ pub(crate) fn follow<T: Ledger>(
     let entities = taken.len() as u64;
     let Feeds { mut rooms } = feeds;
     let arrival = arrive(alloc, &mut rooms, taken)?;
-    let Judged { rooms, delta } = judge_all(alloc, rules, table, applied, entities, &arrival, rooms, tests)?;
+    let Judged { rooms, delta } = judge_all(
+        alloc, rules, table, applied, entities, &arrival, rooms, tests,
+    )?;
     Ok(Followed {
         feeds: Feeds { rooms },
         delta,

@@ -57,7 +57,15 @@ fn judge_header<T: Ledger>(
         Some(before) => {
             let changed = !taken.has_entities_of(before);
             let previous = Some(before.header());
-            rules.judge_header(alloc, feed, taken.header(), previous, changed, moment, tests)
+            rules.judge_header(
+                alloc,
+                feed,
+                taken.header(),
+                previous,
+                changed,
+                moment,
+                tests,
+            )
         }
     }
 }

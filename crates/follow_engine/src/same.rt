@@ -24,7 +24,10 @@ fn are_same_cells(first: CellRef<'_>, second: CellRef<'_>) -> bool
 fn is_same(first: &Fact, second: &Fact) -> bool
     ensures { result ≡ (same_ask first.now.ask second.now.ask && same_cell first.now.value second.now.value) }
 {
-    let asks = are_same(parts_of(first.ask.borrowed()), parts_of(second.ask.borrowed()));
+    let asks = are_same(
+        parts_of(first.ask.borrowed()),
+        parts_of(second.ask.borrowed()),
+    );
     let cells = are_same_cells(cell_of(&first.value), cell_of(&second.value));
     asks && cells
 }

@@ -67,12 +67,20 @@ fn is_same(met: Met<'_>, finding: &Finding) -> bool
 {
     match met.standing {
         None => false,
-        Some(standing) => are_same_facts(finding.facts().as_slice(), standing.finding().facts().as_slice()),
+        Some(standing) => are_same_facts(
+            finding.facts().as_slice(),
+            standing.finding().facts().as_slice(),
+        ),
     }
 }
 
 /// Findings, each with the number that its rule has at its place in an old list, and where it has none with `applied`.
-pub(crate) fn renew(alloc: Global, old: &[Standing], found: Items<Finding>, applied: u64) -> Result<Items<Standing>, AllocError>
+pub(crate) fn renew(
+    alloc: Global,
+    old: &[Standing],
+    found: Items<Finding>,
+    applied: u64,
+) -> Result<Items<Standing>, AllocError>
     requires old { Rises found_cmp (findings_of old.now) }
     requires found { Rises found_cmp found }
     ensures { IfOk result (λ list. list ≡ renewed old.now applied found) }
@@ -89,7 +97,12 @@ pub(crate) fn renew(alloc: Global, old: &[Standing], found: Items<Finding>, appl
 }
 
 /// Appends the findings of now that weren't among those before with the same facts.
-pub(crate) fn put_opened(alloc: Global, before: &[Standing], now: &[Standing], out: &mut Items<Opened>) -> Result<(), AllocError>
+pub(crate) fn put_opened(
+    alloc: Global,
+    before: &[Standing],
+    now: &[Standing],
+    out: &mut Items<Opened>,
+) -> Result<(), AllocError>
     requires before { Rises found_cmp (findings_of before.now) }
     requires now { Rises found_cmp (findings_of now.now) }
     ensures { OnOk result (all_opened out.new ≡ all_opened out.old ++ opened (findings_of before.now) now.now) }
@@ -106,7 +119,12 @@ pub(crate) fn put_opened(alloc: Global, before: &[Standing], now: &[Standing], o
 }
 
 /// Appends the rules at places that stood before and don't now.
-pub(crate) fn put_closed(alloc: Global, before: &[Standing], now: &[Standing], out: &mut Items<Closed>) -> Result<(), AllocError>
+pub(crate) fn put_closed(
+    alloc: Global,
+    before: &[Standing],
+    now: &[Standing],
+    out: &mut Items<Closed>,
+) -> Result<(), AllocError>
     requires before { Rises found_cmp (findings_of before.now) }
     requires now { Rises found_cmp (findings_of now.now) }
     ensures { OnOk result (all_closed out.new ≡ all_closed out.old ++ closed (findings_of before.now) (findings_of now.now)) }

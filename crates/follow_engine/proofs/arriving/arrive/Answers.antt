@@ -15,15 +15,15 @@ pub returns : goal.returns
 returns c =
     subst (λ (xs : List (Option HeldFeed)). HasCome c.args.taken (feeds_of c.args.rooms.now.items) (feeds_of xs) a) (sym items)
     (has_come c.args.taken c.args.rooms.now.items c.make_place.new.rooms.items c.replace-old.result c.in_ok-room.field-0 a c.requires.rooms c.requires.feed c.in_ok-make_place.ensures.same
-      (subst (λ p. p < length c.make_place.new.rooms.items) c.feed-feed.ensures c.in_ok-make_place.ensures.within) c.in_ok-make_place.ensures.few
-      (c.replace-old.ensures.value ∙ c.index_mut.ensures.value ∙ get_or_default c.make_place.new.rooms.items c.feed-feed.result c.index_mut.result.now None c.in_ok-make_place.ensures.within ∙ ap (λ p. get_or c.make_place.new.rooms.items p None) c.feed-feed.ensures)
-      c.in_ok-room.ensures c.feed-feed.ensures refl refl
-      (c.differ.ensures
-        ∙ ap (λ b. differ b c.kinds_of-has.result.updates) (c.kinds_of-had.ensures.updates ∙ ap (λ v. any_row (all_rows (feeds_of v)) TripUpdate) c.deref.ensures.value)
-        ∙ ap (differ (any_row (all_rows (feeds_of c.args.rooms.now.items)) TripUpdate)) (c.kinds_of-has.ensures.updates ∙ ap (λ v. any_row (all_rows (feeds_of v)) TripUpdate) (c.deref-2.ensures.value ∙ items)))
-      (c.differ-2.ensures
-        ∙ ap (λ b. differ b c.kinds_of-has.result.vehicles) (c.kinds_of-had.ensures.vehicles ∙ ap (λ v. any_row (all_rows (feeds_of v)) Vehicle) c.deref.ensures.value)
-        ∙ ap (differ (any_row (all_rows (feeds_of c.args.rooms.now.items)) Vehicle)) (c.kinds_of-has.ensures.vehicles ∙ ap (λ v. any_row (all_rows (feeds_of v)) Vehicle) (c.deref-2.ensures.value ∙ items))))
+    (subst (λ p. p < length c.make_place.new.rooms.items) c.feed-feed.ensures c.in_ok-make_place.ensures.within) c.in_ok-make_place.ensures.few
+    (c.replace-old.ensures.value ∙ c.index_mut.ensures.value ∙ get_or_default c.make_place.new.rooms.items c.feed-feed.result c.index_mut.result.now None c.in_ok-make_place.ensures.within ∙ ap (λ p. get_or c.make_place.new.rooms.items p None) c.feed-feed.ensures)
+    c.in_ok-room.ensures c.feed-feed.ensures refl refl
+    (c.differ.ensures
+    ∙ ap (λ b. differ b c.kinds_of-has.result.updates) (c.kinds_of-had.ensures.updates ∙ ap (λ v. any_row (all_rows (feeds_of v)) TripUpdate) c.deref.ensures.value)
+    ∙ ap (differ (any_row (all_rows (feeds_of c.args.rooms.now.items)) TripUpdate)) (c.kinds_of-has.ensures.updates ∙ ap (λ v. any_row (all_rows (feeds_of v)) TripUpdate) (c.deref-2.ensures.value ∙ items)))
+    (c.differ-2.ensures
+    ∙ ap (λ b. differ b c.kinds_of-has.result.vehicles) (c.kinds_of-had.ensures.vehicles ∙ ap (λ v. any_row (all_rows (feeds_of v)) Vehicle) c.deref.ensures.value)
+    ∙ ap (differ (any_row (all_rows (feeds_of c.args.rooms.now.items)) Vehicle)) (c.kinds_of-has.ensures.vehicles ∙ ap (λ v. any_row (all_rows (feeds_of v)) Vehicle) (c.deref-2.ensures.value ∙ items))))
   where
     a : Arrival
     a = record { feed = c.feed-feed.result; before = c.in_ok-room.field-0.before; changes = record { ids = c.in_ok-room.field-0.ids; updates_turned = c.differ.result; vehicles_turned = c.differ-2.result } }

@@ -1,4 +1,4 @@
-use Rattle.std.proofs.Common.{◌≡◌, ap, ◌∙◌, sym, ◌++◌, ◌+◌}
+use Rattle.std.proofs.Common.{ap, ◌∙◌, ◌++◌, ◌+◌}
 use Rattle.rule_core.specs.Answered.{tables_of}
 use Rattle.engine_laws.specs.HeldFeeds.{HeldFeed, opened_in, closed_in}
 use Rattle.follow_engine.specs.Deltas.{all_opened, all_closed}
@@ -17,7 +17,6 @@ loop-room-preserved g c =
     let rest = c.next.new.self.rest.items in
     let step = c.in-Some.ensures.steps.0 in
     let i = c.loop-room.invariant in
-    
     record {
       next_are = next_step r it rest step next c.loop-room.list.items c.push.new.self.items c.in_ok-next.next _ c.in_ok-push.ensures.items c.in_ok-next.ensures.next i.next_are;
       opens_are = flat_step r it rest step (λ (x : HeldFeed). opened_in x (next x)) (all_opened c.loop-room.opens) (all_opened c.renew_place.new.opens) _ (c.in_ok-next.ensures.opens ∙ ap (λ n. all_opened c.loop-room.opens ++ opened_in (held r) n) c.in_ok-next.ensures.next) i.opens_are;

@@ -14,7 +14,7 @@ loop-standing-preserved c =
     let here : option_copied c.meet-met.result.standing ≡ met x.finding left = c.meet-met.ensures.met ∙ ap (λ f. met f left) c.finding.ensures in
     let rest : drop c.meet-met.result.next c.args.before.now ≡ after x.finding left = c.meet-met.ensures.after ∙ ap (λ f. after f left) c.finding.ensures in
     let same : c.is_same.result ≡ was_same x.finding (met x.finding left) =
-        c.is_same.ensures ∙ ap (λ f. was_same f (option_copied c.meet-met.result.standing)) c.finding-in-loop-standing.ensures ∙ ap (was_same x.finding) here in
+    c.is_same.ensures ∙ ap (λ f. was_same f (option_copied c.meet-met.result.standing)) c.finding-in-loop-standing.ensures ∙ ap (was_same x.finding) here in
     record {
       opened_is = elim c.if-not-is_same.branch [
         | then-not-is_same+in_ok-to_opened+in_ok-push w ↦
