@@ -1,7 +1,7 @@
 -- What an engine stands for once a snapshot was put at its end.
-use Rattle.std.specs.Prelude.{◌≡◌, ℕ, ◌+◌, ◌<◌, ◌≤◌, ◌==◌, Bool, true, false, cond, List, [], ◌++◌, map, length, Option, Some, refl}
+use Rattle.std.specs.Prelude.{◌≡◌, ℕ, ◌+◌, ◌<◌, ◌≤◌, List, map, length, Option, refl}
 use Rattle.std.specs.List.{flat_map}
-use Rattle.std.proofs.Common.{sym, ◌∙◌, ap, subst, arith}
+use Rattle.std.proofs.Common.{sym, subst, arith}
 use Rattle.feed_values.specs.Snapshot.{entity_payloads}
 use Rattle.timetable.specs.Timetables.{Tables}
 use Rattle.rule_core.specs.History.{Snapshot, feed_limit, feed_limit-is}
@@ -9,15 +9,15 @@ use Rattle.rule_core.specs.Changed.{with}
 use Rattle.rule_core.specs.Groups.{Each}
 use Rattle.rule_core.specs.Pairs.{PairRow}
 use Rattle.engine_laws.specs.Delta.{Delta, IsDelta}
-use Rattle.engine_laws.specs.HeldFeeds.{KeyedLists, HeldFeed, IsOwn, AreOn, AreUnder, AreApart, feed_at, data_of, rows_held, entities_found, opened_in, closed_in}
+use Rattle.engine_laws.specs.HeldFeeds.{KeyedLists, HeldFeed, AreOn, AreUnder, AreApart, feed_at, data_of, rows_held, entities_found, opened_in, closed_in}
 use Rattle.engine_laws.specs.Standings.{StandsFor, findings_of}
 use Rattle.engine_laws.proofs.Places.{data_are_joined}
 use Rattle.engine_laws.proofs.Proved.{next_stands, next_changes}
 use Rattle.follow_engine.specs.declared.arrival.Arrival.{Arrival}
-use Rattle.follow_engine.specs.Arrived.{with_last, HasCome}
+use Rattle.follow_engine.specs.Arrived.{HasCome}
 use Rattle.follow_engine.specs.Counted.{tested_in, paired_in, bounded_in, total}
 use Rattle.follow_engine.specs.Rooms.{AreRooms, next_feed}
-use Rattle.follow_engine.proofs.Nexts.{is_next, new_rooms, is_change, last_mid, header_mid, entities_mid, own_mid}
+use Rattle.follow_engine.proofs.Nexts.{is_next, new_rooms, is_change, header_mid, entities_mid, own_mid}
 
 few_feeds : (feeds : List HeldFeed) → AreRooms feeds → length feeds ≤ feed_limit
 few_feeds feeds rooms = subst (λ n. length feeds ≤ n) (sym feed_limit-is) (more (length feeds) rooms.few)

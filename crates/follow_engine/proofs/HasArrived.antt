@@ -1,6 +1,5 @@
 -- A snapshot in the place of the one before it.
 use Rattle.std.specs.Prelude.{◌≡◌, ℕ, zero, suc, ◌<◌, ◌≤◌, ◌==◌, true, false, cond, List, [], ◌∷◌, length, get_or, Option, Some, None, refl}
-use Rattle.std.specs.List.{flat_map}
 use Rattle.std.proofs.Common.{sym, ◌∙◌, ap, subst, arith, eq-eqb, set}
 use Rattle.std.proofs.lemmas.List.{get_or-set_same, get_or-set_other, length-map, length-set}
 use borrow.Author.Tests.{eqb-true}
@@ -9,8 +8,8 @@ use Rattle.rule_core.specs.declared.kind.Kind.{Kind}
 use Rattle.rule_core.specs.declared.kind.Kind.TheVariants.{TripUpdate, Vehicle}
 use Rattle.rule_core.specs.Groups.{Each}
 use Rattle.rule_core.specs.GroupLaws.{each_append, each_weaken}
-use Rattle.rule_core.specs.Pairs.{PairRow, rows_of, any_row}
-use Rattle.rule_core.specs.History.{Snapshot, Keyed, entities_of_snapshot, feed_limit, feed_limit-is}
+use Rattle.rule_core.specs.Pairs.{rows_of, any_row}
+use Rattle.rule_core.specs.History.{Snapshot, Keyed, entities_of_snapshot, feed_limit-is}
 use Rattle.rule_core.specs.Answered.{rows_in}
 use Rattle.rule_core.specs.Changed.{changed_rows, differ}
 use Rattle.engine_laws.specs.HeldFeeds.{HeldFeed, IsLastOf, feed_at, rows_held}

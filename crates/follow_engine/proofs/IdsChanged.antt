@@ -1,11 +1,9 @@
 -- The ids of rows that came or went, by the seats of two snapshots.
-use Rattle.std.specs.Prelude.{◌≡◌, ℕ, Bool, true, false, not, ◌||◌, List, [], ◌∷◌, ◌++◌, filter, Option, Some, None, option_map, refl}
+use Rattle.std.specs.Prelude.{◌≡◌, ℕ, Bool, true, false, not, ◌||◌, List, [], ◌∷◌, filter, Option, Some, None, option_map, refl}
 use Rattle.std.specs.List.{list_any}
 use Rattle.std.specs.BTreeMap.{is_at}
 use Rattle.std.specs.Map.{lookup}
 use Rattle.std.proofs.Common.{sym, ap, ◌∙◌}
-use Rattle.feed_values.specs.Schema.{Value}
-use Rattle.feed_values.specs.Messages.{entity}
 use Rattle.feed_values.specs.Snapshot.{entity_of}
 use Rattle.feed_values.specs.Views.{entity_value}
 use Rattle.rule_core.specs.declared.key.EntityKey.{EntityKey}

@@ -1,5 +1,5 @@
 -- One more snapshot: what is held then is what is owed.
-use Rattle.std.specs.Prelude.{◌≡◌, ℕ, ◌+◌, ◌<◌, ◌≤◌, ◌==◌, ◌&&◌, ◌||◌, not, Bool, true, false, cond, List, [], ◌∷◌, ◌++◌, map, length, get_or, Option, Some, None, refl}
+use Rattle.std.specs.Prelude.{◌≡◌, ℕ, ◌<◌, ◌≤◌, ◌==◌, ◌&&◌, ◌||◌, Bool, true, false, cond, List, map, length, Option, Some, None, refl}
 use Rattle.std.specs.List.{flat_map}
 use Rattle.std.proofs.Common.{sym, ◌∙◌, ap, subst, arith, eq-eqb}
 use Rattle.std.proofs.lemmas.Bool.Decides.{nat_tests}
@@ -12,23 +12,20 @@ use Rattle.rule_core.specs.GroupLaws.{each_weaken}
 use Rattle.rule_core.specs.Pairs.{PairRow, rows_of}
 use Rattle.rule_core.specs.History.{Snapshot, Keyed, entities_in, entities_of_snapshot, below, feed_limit, feed_limit-is}
 use Rattle.rule_core.specs.Answered.{rows_in}
-use Rattle.rule_core.specs.Changed.{is_paired, keeps_bounds, count_of}
-use Rattle.rule_core.specs.Standing.{Standing, Spot}
-use Rattle.engine_laws.specs.Delta.{Delta, IsChange, is_new, is_other, is_limited}
-use Rattle.engine_laws.specs.HeldFeeds.{KeyedLists, HeldFeed, IsLastOf, AreOwn, feed_at, rows_held, head_found, entities_found, renewed_lists, IsNext, opened_in, closed_in}
+use Rattle.rule_core.specs.Changed.{is_paired, count_of}
+use Rattle.engine_laws.specs.Delta.{Delta, IsChange, is_new, is_limited}
+use Rattle.engine_laws.specs.HeldFeeds.{KeyedLists, HeldFeed, IsLastOf, feed_at, rows_held, head_found, entities_found, renewed_lists, IsNext, opened_in, closed_in}
 use Rattle.engine_laws.specs.Standings.{renewed}
 use Rattle.engine_laws.proofs.Lists.{below-same, every}
 use Rattle.engine_laws.proofs.Places.{flat-below, get_or-map}
 use Rattle.engine_laws.proofs.Proved.{next_is_own}
 use Rattle.engine_laws.proofs.Sorted.{entities_feed}
 use Rattle.follow_engine.specs.declared.arrival.Arrival.{Arrival}
-use Rattle.follow_engine.specs.declared.changes.Changes.{Changes}
 use Rattle.follow_engine.specs.Arrived.{with_last, HasCome}
 use Rattle.follow_engine.specs.Counted.{is_fresh, is_bounded, concerns, tested_in, paired_in, bounded_of, bounded_in, total}
-use Rattle.follow_engine.specs.GivesIds.{TellChanges}
 use Rattle.follow_engine.specs.Rooms.{nothing, AreRooms, next_header, next_feed}
 use Rattle.follow_engine.proofs.Concerned.{concerned}
-use Rattle.follow_engine.proofs.Sums.{sum_below, total-below, sum-one, count-below, count-same, count-none}
+use Rattle.follow_engine.proofs.Sums.{total-below, sum-one, count-below, count-same, count-none}
 
 -- the keys of a feed's entities
 pub keys_of : (f : ℕ) (n : Option Snapshot) → IsLastOf f n → Each (λ e. e.0.feed ≡ f) (entities_of_snapshot n)

@@ -1,5 +1,5 @@
 -- One feed more.
-use Rattle.std.specs.Prelude.{◌≡◌, ℕ, ◌+◌, List, [], ◌∷◌, ◌++◌, map, Option, Some, refl}
+use Rattle.std.specs.Prelude.{◌≡◌, ℕ, ◌+◌, List, [], ◌∷◌, ◌++◌, map, Option, Some}
 use Rattle.timetable.specs.Timetables.{Tables}
 use Rattle.rule_core.specs.Pairs.{PairRow}
 use Rattle.rule_core.specs.History.{Snapshot}

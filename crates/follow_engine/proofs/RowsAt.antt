@@ -1,7 +1,7 @@
 -- The pairing rows of one entity among those of others.
 use Rattle.std.specs.Prelude.{◌≡◌, ℕ, Bool, true, false, not, cond, ◌&&◌, ◌||◌, List, [], ◌∷◌, ◌++◌, filter, Option, Some, None, option_map, option_and_then, refl}
-use Rattle.std.specs.List.{list_any, find, flat_map}
-use Rattle.std.proofs.Common.{sym, ap, ◌∙◌, subst}
+use Rattle.std.specs.List.{list_any, find}
+use Rattle.std.proofs.Common.{ap, ◌∙◌, subst}
 use Rattle.std.proofs.lemmas.List.Elements.{filter-append}
 use Rattle.feed_values.specs.Schema.{Value}
 use Rattle.feed_values.specs.Messages.{entity, trip_update, vehicle_position}
@@ -18,7 +18,7 @@ use Rattle.rule_core.specs.History.{Keyed}
 use Rattle.rule_core.specs.Answered.{rows_in, payload_under}
 use Rattle.engine_laws.specs.HeldFeeds.{AreApart}
 use Rattle.engine_laws.proofs.Spots.{is_false, key_is, key_self}
-use Rattle.follow_engine.specs.Ids.{GivenIds, of_update, of_vehicle, update_ids, vehicle_ids, same_ids}
+use Rattle.follow_engine.specs.Ids.{of_update, of_vehicle, update_ids, vehicle_ids, same_ids}
 use Rattle.follow_engine.specs.Changes.{new_trip, new_vehicle, entity_trip, entity_vehicle}
 
 pub any-append : {A : Type 0} (q : A → Bool) (xs ys : List A) → list_any q (xs ++ ys) ≡ (list_any q xs || list_any q ys)

@@ -25,8 +25,7 @@ use Rattle.rule_core.specs.Answered.{Heads, heads_of}
 use Rattle.judging.specs.Seats as seat
 use Rattle.judging.specs.Whole as whole
 use Rattle.judging.specs.Judged.{seat_rows, found_at_seats}
-use Rattle.engine_laws.specs.Order.{Rises}
-use Rattle.engine_laws.specs.HeldFeeds.{HeldFeed, IsLastOf, feed_at, rows_held, entity_found, entities_found}
+use Rattle.engine_laws.specs.HeldFeeds.{HeldFeed, feed_at, rows_held, entity_found, entities_found}
 use Rattle.engine_laws.proofs.Lists.{both, map-same, filter-all, filter-none, rises_below, flat-same, every}
 use Rattle.engine_laws.proofs.Places.{flat-below}
 use Rattle.engine_laws.proofs.Sorted.{Rising, entities_rise, less_other, ordered-rising}

@@ -8,8 +8,6 @@ use Rattle.std.proofs.Common.{ap, ◌∙◌, sym}
 use Rattle.feed_values.specs.declared.entity.Entity.{Entity}
 use Rattle.rule_core.specs.Order.{key_cmp}
 use Rattle.std.proofs.lemmas.List.Folds.{flat_map-map}
-use Rattle.feed_values.specs.Schema.{Value}
-use Rattle.feed_values.specs.Messages.{entity}
 use Rattle.feed_values.specs.Snapshot.{entity_of}
 use Rattle.feed_values.specs.Views.{entity_value}
 use Rattle.rule_core.specs.declared.key.EntityKey.{EntityKey}

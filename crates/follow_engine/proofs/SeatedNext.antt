@@ -1,17 +1,17 @@
 -- One entity more of a snapshot.
-use Rattle.std.specs.Prelude.{◌≡◌, ◌<◌, ◌+◌, ℕ, zero, suc, Bool, true, false, List, [], ◌∷◌, ◌++◌, length, map, get_or, slice_get, take, drop, Some, cond, bytes_eq, refl}
+use Rattle.std.specs.Prelude.{◌≡◌, ◌<◌, ◌+◌, ℕ, zero, suc, List, [], ◌∷◌, ◌++◌, length, get_or, slice_get, take, drop, Some, cond, bytes_eq, refl}
 use Rattle.std.specs.Ordering.{match_ordering}
 use Rattle.std.specs.declared.cmp.Ordering.TheVariants as order
 use Rattle.std.specs.BTreeMap.{insert_entry}
-use Rattle.std.proofs.Common.{sym, ap, ◌∙◌, subst, arith}
+use Rattle.std.proofs.Common.{sym, ap, ◌∙◌, arith}
 use Rattle.std.proofs.lemmas.List.{take_more, drop_more}
-use Rattle.feed_values.specs.Snapshot.{entity_payloads, entity_of}
+use Rattle.feed_values.specs.Snapshot.{entity_payloads}
 use Rattle.rule_core.specs.declared.key.EntityKey.{EntityKey}
 use Rattle.rule_core.specs.Groups.{Each}
 use Rattle.rule_core.specs.Order.{key_cmp}
 use Rattle.rule_core.specs.History.{Keyed, id_of, count_id, keyed_after, ordered_after}
 use Rattle.follow_engine.specs.declared.seat.Seat.{Seat}
-use Rattle.follow_engine.specs.Seated.{seat_payload, IsSeat, Seats, keyed_seats}
+use Rattle.follow_engine.specs.Seated.{seat_payload, Seats, keyed_seats}
 
 count_last : (ps : List (List ℕ)) (p id : List ℕ) → count_id (ps ++ p ∷ []) id ≡ cond (bytes_eq (id_of p) id) 1 0 + count_id ps id
 count_last [] p id = refl

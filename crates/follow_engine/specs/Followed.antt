@@ -1,7 +1,6 @@
 -- All feeds, once a snapshot came and all was judged anew.
-use Rattle.std.specs.Prelude.{◌≡◌, ℕ, ◌+◌, List, map, length, Option}
+use Rattle.std.specs.Prelude.{◌≡◌, ℕ, ◌+◌, List, map, Option}
 use Rattle.std.specs.List.{flat_map}
-use Rattle.feed_values.specs.Snapshot.{entity_payloads}
 use Rattle.timetable.specs.Timetables.{Tables}
 use Rattle.rule_core.specs.Changed.{with}
 use Rattle.rule_core.specs.History.{Snapshot}

@@ -1,5 +1,5 @@
 -- What is held of feeds, and what a snapshot makes of it.
-use Rattle.std.specs.Prelude.{◌≡◌, ℕ, ◌≤◌, ◌==◌, Bool, false, List, [], map, length, Option, Some, None, if◌then◌else◌}
+use Rattle.std.specs.Prelude.{ℕ, ◌≤◌, ◌==◌, Bool, false, List, [], map, length, Option, Some, None, if◌then◌else◌}
 use Rattle.timetable.specs.Timetables.{Tables}
 use Rattle.rule_core.specs.Groups.{Each}
 use Rattle.rule_core.specs.Pairs.{PairRow}

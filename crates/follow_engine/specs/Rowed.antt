@@ -1,10 +1,9 @@
 -- The entities of feeds by value, and which kinds of rows they have.
-use Rattle.std.specs.Prelude.{◌≡◌, ℕ, Bool, List, map, Option}
+use Rattle.std.specs.Prelude.{List, map}
 use Rattle.std.specs.List.{flat_map}
 use Rattle.feed_values.specs.Snapshot.{entity_of}
-use Rattle.rule_core.specs.declared.kind.Kind.TheVariants.{TripUpdate, Vehicle}
-use Rattle.rule_core.specs.Pairs.{PairRow, any_row}
-use Rattle.rule_core.specs.History.{Keyed, Snapshot, entities_of_snapshot}
+use Rattle.rule_core.specs.Pairs.{PairRow}
+use Rattle.rule_core.specs.History.{Keyed, entities_of_snapshot}
 use Rattle.rule_core.specs.Answered.{rows_in}
 use Rattle.judging.specs.Seats.{Seat}
 use Rattle.engine_laws.specs.HeldFeeds.{HeldFeed}

@@ -1,4 +1,9 @@
 //! An engine that follows up to 16 feeds.
+//!
+//! `engine` puts a snapshot at the end of the history. `taken` holds a snapshot decoded, `seating` its entities under their keys.
+//! `arriving` puts a snapshot in the place of the one before it, and tells by `changes` and `kinds` what became of pairing rows.
+//! `rows` gives the pairing rows of all feeds, `renewing` judges a header and entities anew, `walking` compares what was found
+//! with what is, `counting` counts entities, `rooms` does it feed by feed, and `following` all of it.
 #![tactic(auto)]
 
 mod arrival;

@@ -1,6 +1,5 @@
-use Rattle.std.proofs.Common.{◌≡◌, ap, ◌∙◌, sym, subst, refl, Some, None, []}
-use Rattle.engine_laws.specs.HeldFeeds.{HeldFeed}
-use Rattle.follow_engine.specs.Arrived.{IsSettled, with_last}
+use Rattle.std.proofs.Common.{ap, ◌∙◌, sym, subst, refl, Some, None, []}
+use Rattle.follow_engine.specs.Arrived.{IsSettled}
 use Rattle.follow_engine.specs.Rooms.{held}
 use Rattle.follow_engine.proofs.IdsChanged.{first_ids, later_ids}
 use Rattle.follow_engine.proofs.arriving.settle.Goals as goal

@@ -1,9 +1,8 @@
-use Rattle.std.proofs.Common.{◌≡◌, ◌∙◌, subst, refl}
+use Rattle.std.proofs.Common.{◌∙◌, subst}
 use Rattle.rule_core.specs.Answered.{tables_of}
-use Rattle.follow_engine.specs.Arrived.{HasCome}
 use Rattle.follow_engine.specs.Deltas.{delta_value}
 use Rattle.follow_engine.specs.Followed.{IsFollowed}
-use Rattle.follow_engine.specs.Rooms.{AreRooms, feeds_of}
+use Rattle.follow_engine.specs.Rooms.{feeds_of}
 use Rattle.follow_engine.proofs.Applied.{mid_rooms, after, stands_new, changes_new}
 use Rattle.follow_engine.proofs.following.follow.Goals as goal
 

@@ -1,4 +1,4 @@
-use Rattle.std.proofs.Common.{◌≡◌, ℕ, ◌+◌, ap, ◌∙◌, sym, subst, refl, arith, List, [], Option, ◌++◌}
+use Rattle.std.proofs.Common.{◌≡◌, ℕ, ◌+◌, ap, ◌∙◌, subst, refl, arith, List, [], Option, ◌++◌}
 use Rattle.timetable.specs.Timetables.{Tables}
 use Rattle.engine_laws.specs.HeldFeeds.{feed_at, entities_found, rows_held}
 use Rattle.rule_core.specs.Standing.{Standing, Spot}

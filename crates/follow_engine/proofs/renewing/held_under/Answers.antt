@@ -1,5 +1,4 @@
 use Rattle.std.proofs.Common.{ap, ◌∙◌, sym, subst, option_copied, unwrap_or, []}
-use Rattle.engine_laws.specs.HeldFeeds.{list_under}
 use Rattle.follow_engine.specs.Rooms.{IsInOrder}
 use Rattle.follow_engine.proofs.Under.{list_is, order_under}
 use Rattle.follow_engine.proofs.renewing.held_under.Goals as goal

@@ -1,7 +1,5 @@
-use Rattle.std.proofs.Common.{◌≡◌, ap, ◌∙◌, sym, not, None, Some, [], false, refl}
+use Rattle.std.proofs.Common.{ap, ◌∙◌, sym, not, None, Some, [], false, refl}
 use Rattle.feed_values.specs.Views.{feed_header_value}
-use Rattle.feed_values.specs.Snapshot.{header_of}
-use Rattle.rule_core.specs.Answered.{entities_differ}
 use Rattle.engine_laws.specs.HeldFeeds.{head_found}
 use Rattle.follow_engine.proofs.Judged.{head_is, if_ok}
 use Rattle.follow_engine.proofs.renewing.judge_header.Goals as goal

@@ -1,4 +1,4 @@
-use Rattle.std.proofs.Common.{◌≡◌, ap, ◌∙◌, sym, subst, ◌++◌, [], Some, append-nil}
+use Rattle.std.proofs.Common.{ap, ◌∙◌, sym, subst, ◌++◌, [], append-nil}
 use Rattle.std.specs.List.{flat_map}
 use Rattle.std.specs.BTreeMap.{insert_entry}
 use Rattle.std.specs.Map.Iter.{deref_pair}
@@ -10,7 +10,7 @@ use Rattle.rule_core.specs.Order.{key_cmp}
 use Rattle.rule_core.specs.Standing.{opened}
 use Rattle.engine_laws.specs.Order.{found_cmp, Rises}
 use Rattle.engine_laws.specs.Standings.{findings_of, renewed}
-use Rattle.engine_laws.specs.HeldFeeds.{KeyedLists, list_under, entities_found, renewed_lists}
+use Rattle.engine_laws.specs.HeldFeeds.{KeyedLists, list_under, renewed_lists}
 use Rattle.follow_engine.specs.Deltas.{all_opened}
 use Rattle.follow_engine.specs.Rooms.{IsInOrder, ListsInOrder}
 use Rattle.follow_engine.specs.Seated.{IsSeat, Seats, seat_payload}

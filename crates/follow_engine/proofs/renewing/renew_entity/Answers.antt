@@ -1,4 +1,4 @@
-use Rattle.std.proofs.Common.{◌≡◌, ap, ◌∙◌, sym, subst, None, false, List}
+use Rattle.std.proofs.Common.{ap, ◌∙◌, sym, subst, None, false, List}
 use Rattle.feed_values.specs.Views.{entity_value, feed_header_value}
 use Rattle.rule_core.specs.Answered.{tables_of}
 use Rattle.rule_core.specs.Found.{Found}

@@ -1,7 +1,6 @@
-use Rattle.std.proofs.Common.{◌≡◌, ap, ◌∙◌, sym, subst, List}
+use Rattle.std.proofs.Common.{sym, subst, List}
 use Rattle.rule_core.specs.Found.{Found}
 use Rattle.engine_laws.specs.Order.{found_cmp, Rises}
-use Rattle.engine_laws.specs.HeldFeeds.{head_found}
 use Rattle.engine_laws.proofs.Ascending.{head_ascends}
 use Rattle.follow_engine.specs.Rooms.{IsInOrder}
 use Rattle.follow_engine.proofs.Judged.{order_renewed}

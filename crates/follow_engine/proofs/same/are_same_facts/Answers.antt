@@ -1,4 +1,3 @@
-use Rattle.std.proofs.Common.{arith}
 use Rattle.follow_engine.proofs.FactsEnd.{facts_end}
 use Rattle.follow_engine.proofs.same.are_same_facts.Goals as goal
 

@@ -1,4 +1,4 @@
-use Rattle.std.proofs.Common.{◌≡◌, ◌+◌, ap, ◌∙◌, sym, subst, cond, bytes_eq, take, drop, length, refl, arith}
+use Rattle.std.proofs.Common.{◌≡◌, ◌+◌, ap, ◌∙◌, sym, subst, cond, bytes_eq, take, refl, arith}
 use Rattle.feed_values.specs.Snapshot.{entity_payloads, entity_of}
 use Rattle.feed_values.specs.Views.{entity_value}
 use Rattle.rule_core.specs.Groups.{Each}

@@ -1,4 +1,4 @@
-use Rattle.std.proofs.Common.{◌≡◌, sym, ap, ◌∙◌, subst, not, is_some, option_copied, drop, ◌++◌, ◌∷◌, [], true, false, arith}
+use Rattle.std.proofs.Common.{◌≡◌, sym, ap, ◌∙◌, not, is_some, option_copied, drop, ◌++◌, ◌∷◌, [], true, false, arith}
 use Rattle.std.proofs.lemmas.List.{map-append}
 use Rattle.follow_engine.specs.Deltas.{all_closed, closed_value}
 use Rattle.follow_engine.specs.Walked.{met, after}

@@ -1,4 +1,4 @@
-use Rattle.std.proofs.Common.{sym, ap, ◌∙◌, subst, ◌∷◌, ◌++◌, [], List, unwrap_or}
+use Rattle.std.proofs.Common.{ap, ◌∙◌, subst, ◌∷◌, ◌++◌, [], List, unwrap_or}
 use Rattle.rule_core.specs.Found.{Found}
 use Rattle.engine_laws.specs.Order.{found_cmp, Rises}
 use Rattle.follow_engine.proofs.Walked.{renew_step, left_rises}

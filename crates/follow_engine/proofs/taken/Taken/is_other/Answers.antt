@@ -1,4 +1,4 @@
-use Rattle.std.proofs.Common.{◌≡◌, ap, ◌∙◌, sym, subst, None, Some, option_copied}
+use Rattle.std.proofs.Common.{ap, ◌∙◌, sym, option_copied}
 use Rattle.feed_values.specs.Snapshot.{entity_payloads}
 use Rattle.rule_core.specs.History.{Snapshot, entities_in}
 use Rattle.engine_laws.specs.Delta.{is_other}
