@@ -5,7 +5,7 @@
 //! or answers its first fault: the file isn't there; it is too large, in bytes or in rows; or the first row that isn't a
 //! row of a list, with its number from 1 and, where a field is to blame, the column.
 //!
-//! From the bottom up: `column` and `fault` are what faults are made of, `number` reads a number, `row` reads a row,
+//! From the bottom up: `column` and `fault` are what faults are made of, `number` reads a number, here and on a command line, `row` reads a row,
 //! `rows` all rows of a file in memory, and `list` the file. `laws` says what a list holds in words of its rows.
 #![tactic(auto)]
 
@@ -21,4 +21,5 @@ pub use column::Column;
 pub use fault::ListFault;
 pub use laws::list_follows_its_rows;
 pub use list::read_list;
-pub use row::ListRow;
+pub use number::number_of;
+pub use row::{ListRow, is_path};

@@ -94,7 +94,8 @@ fn path_in(alloc: Global, number: u64, field: &[u8]) -> Result<Text, ListFault>
     Ok(text_of(alloc, text)?)
 }
 
-fn is_path(text: &str) -> bool
+/// Whether a text may be the path of a file: it isn't empty and doesn't begin with a dash.
+pub fn is_path(text: &str) -> bool
     ensures { result ≡ is_path text.now }
 {
     !text.is_empty() && text.as_bytes()[0] != b'-'

@@ -17,10 +17,13 @@ use Rattle.rt_command.specs.declared.status.Status.{Status}
 use Rattle.rt_command.specs.declared.status.Status.TheVariants as answer
 use Rattle.rt_command.specs.declared.input_fault.InputFault.{InputFault}
 use Rattle.rt_command.specs.declared.input_fault.InputFault.TheVariants as input
-use Rattle.rt_command.specs.Inputs.{refusal_text}
+use Rattle.feed_list.specs.Texts.{fault_text}
+use Rattle.feed_list.specs.declared.fault.ListFault.{ListFault}
+use Rattle.feed_list.specs.declared.fault.ListFault.TheVariants as listed
+use Rattle.rt_command.specs.Inputs.{refusal_text, refused_text}
 use Rattle.rt_command.specs.JsonInputs.{input_text}
-use Rattle.rt_command.specs.Report.{Report, files_report, check_report, refused_input}
-use Rattle.rt_command.specs.Faults.{TellsFault, IsErrorText, says_memory, says_write_fault, says_read_fault, says_refused, Says, SaysFault, SaysLoadFault, SaysInputFault, IsReported, IsInput, memory_text, write_fault_text, read_fault_text}
+use Rattle.rt_command.specs.Report.{Report, check_report, refused_input}
+use Rattle.rt_command.specs.Faults.{TellsFault, IsErrorText, says_memory, says_write_fault, says_read_fault, says_refused, Says, SaysFault, SaysLoadFault, SaysInputFault, SaysListFault, IsReported, IsInput, memory_text, write_fault_text, read_fault_text}
 use Rattle.rt_command.specs.Outside.{Outside, outside}
 use Rattle.rt_command.specs.Carried.{CarriesOut}
 use Rattle.rt_command.proofs.Told.{tells, tells_more}
@@ -180,6 +183,25 @@ module _ (report : Contents → Report) (reads : List ℕ → Type 0) (files lat
     carried_input_fault (input.MissingKey path) is read named said =
         carried_refused result (input_text file (input.MissingKey path)) (says_refused file _ reading) (is (λ e. cc e) (λ e. cc e)) said
 
+  -- the fault of a list was told
+  module _ (result : Status) (list : List ℕ) (reading : reads list) where
+    pub carried_list_fault : (why : ListFault) → ((why ≡ listed.ReadFault → ⊥) → (why ≡ listed.Memory → ⊥) → RefusedBy (refused_text list (fault_text why))) →
+        (why ≡ listed.ReadFault → Rose files.faults later.faults) → IfSome later.asked (λ asked. asked ≡ list) →
+        SaysListFault list why eb ea result → CarriesOut report reads old new result
+    carried_list_fault listed.ReadFault is read named said =
+        carried_read_fault report reads old new result (nothing (contents_told files.told)) list reading (read refl) named said
+    carried_list_fault listed.Memory is read named said = carried_memory report reads old new result (nothing (contents_told files.told)) said
+    carried_list_fault listed.MissingFile is read named said =
+        carried_refused result (refused_text list (fault_text listed.MissingFile)) (says_refused list _ reading) (is (λ e. cc e) (λ e. cc e)) said
+    carried_list_fault listed.TooLarge is read named said =
+        carried_refused result (refused_text list (fault_text listed.TooLarge)) (says_refused list _ reading) (is (λ e. cc e) (λ e. cc e)) said
+    carried_list_fault (listed.NotThreeFields row) is read named said =
+        carried_refused result (refused_text list (fault_text (listed.NotThreeFields row))) (says_refused list _ reading) (is (λ e. cc e) (λ e. cc e)) said
+    carried_list_fault (listed.NotText row column) is read named said =
+        carried_refused result (refused_text list (fault_text (listed.NotText row column))) (says_refused list _ reading) (is (λ e. cc e) (λ e. cc e)) said
+    carried_list_fault (listed.BadValue row column) is read named said =
+        carried_refused result (refused_text list (fault_text (listed.BadValue row column))) (says_refused list _ reading) (is (λ e. cc e) (λ e. cc e)) said
+
 -- what was carried out behind the reading of other files, as part of the whole
 module _ (report whole : Contents → Report) (reads more : List ℕ → Type 0) (files : FilesState) (out err : SinkState) (after : Outside) (result : Status)
     (reading : (name : List ℕ) → reads name → more name) (first : FilesState)
@@ -219,10 +241,10 @@ module _ (report whole : Contents → Report) (reads more : List ℕ → Type 0)
       CarriesOut report reads (outside files out err) after result → CarriesOut whole more (outside first out err) after result
   carried_within same is carried = within (contents_told first.told) same refl is carried
 
--- the same of equal names
-pub carried_names : (accepts : List ℕ → Report) (a b : List (List ℕ)) (before after : Outside) (result : Status) → a ≡ b →
-    CarriesOut (files_report accepts a) (Contains a) before after result → CarriesOut (files_report accepts b) (Contains b) before after result
-carried_names accepts a b before after result same = subst (λ names. CarriesOut (files_report accepts names) (Contains names) before after result) same
+-- the same of an equal folder
+pub carried_folder : (ask : Option (List ℕ) → Contents → Report) (reads : Option (List ℕ) → List ℕ → Type 0) (f g : Option (List ℕ)) (before after : Outside) (result : Status) → f ≡ g →
+    CarriesOut (ask f) (reads f) before after result → CarriesOut (ask g) (reads g) before after result
+carried_folder ask reads f g before after result same = subst (λ folder. CarriesOut (ask folder) (reads folder) before after result) same
 
 -- the same of an equal folder, an equal moment and equal names
 pub carried_at : (f g : Option (List ℕ)) (m n : ℕ) (a b : List (List ℕ)) (before after : Outside) (result : Status) → f ≡ g → m ≡ n → a ≡ b →

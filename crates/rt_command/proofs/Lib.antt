@@ -2,9 +2,12 @@ pub mod Appended
 pub mod Added
 pub mod Named
 pub mod Reports
+pub mod Pieces
 pub mod Requests
 pub mod Refusals
 pub mod Told
 pub mod Carried
-pub mod Numbers
 pub mod Encodings
+pub mod Rows
+pub mod OneFile
+pub mod Listed

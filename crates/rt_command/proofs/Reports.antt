@@ -24,8 +24,8 @@ use Rattle.judging.proofs.OneSnapshot.{one_snapshot}
 use Rattle.rt_command.specs.Found.{snapshot_in, decoded}
 use Rattle.rt_command.specs.declared.wanted.Wanted.{Wanted}
 use Rattle.rt_command.specs.declared.wanted.Wanted.TheVariants.{Findings, Form}
-use Rattle.rt_command.specs.Report.{snapshot_report, judged_report, found_report, accepted_report, snapshot_findings, taken}
-use Rattle.rt_command.specs.Judged.{IsJudged, accepts, findings_report, message_report, value_report}
+use Rattle.rt_command.specs.Report.{snapshot_report, judged_report}
+use Rattle.rt_command.specs.Judged.{IsJudged, accepts, accepted_report, found_report, findings_report, first_taken, message_report, snapshot_findings, value_report}
 
 -- what an accepted snapshot's bytes give is what it says gives
 feed_fits : 0 < feed_limit
@@ -33,7 +33,7 @@ feed_fits = subst (λ n. 0 < n) (sym feed_limit-is) (omega arith)
 
 accepted_is : (t : Option Tables) (moment : ℕ) (bytes : List ℕ) → accepted_report t moment bytes ≡ findings_report t moment (snapshot_value bytes)
 unfolding snapshot_findings
-accepted_is t moment bytes = ap (found_report moment (length (entities_of bytes))) (one_snapshot t (taken moment bytes) feed_fits)
+accepted_is t moment bytes = ap (found_report moment (length (entities_of bytes))) (one_snapshot t (first_taken moment bytes) feed_fits)
 
 accepts_is : (wanted : Wanted) (bytes : List ℕ) → accepts wanted bytes ≡ message_report wanted (snapshot_value bytes)
 accepts_is (Findings moment timetable) bytes = accepted_is (tables_of timetable.now) moment bytes
@@ -50,7 +50,7 @@ report_is wanted (Some bytes) = judged_is wanted bytes (refusal bytes)
 past : (n : ℕ) → snapshot_limit < n → nat_lt snapshot_limit n ≡ true
 past n l = grind (arith, nat_tests)
 
-large_refusal : (bytes : List ℕ) → snapshot_limit < length bytes → refusal bytes ≡ Some (refused snapshot_limit TooLarge)
+pub large_refusal : (bytes : List ℕ) → snapshot_limit < length bytes → refusal bytes ≡ Some (refused snapshot_limit TooLarge)
 unfolding refusal
 large_refusal bytes l = rw (past (length bytes) l) refl
 

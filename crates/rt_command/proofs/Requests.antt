@@ -1,65 +1,119 @@
--- A request names one file.
-use Rattle.std.proofs.Common.{◌≡◌, ℕ, ◌≤◌, ◌-◌, get_or, ◌∙◌, List, [], ◌∷◌, Bool, true, false, length, take, drop, map, String, string_bytes, codes, ap, refl, subst, Some, None, if◌then◌else◌, arith}
+-- What a request names, and words behind options.
+use Rattle.std.proofs.Common.{◌≡◌, ℕ, ◌≤◌, ◌<◌, ◌-◌, get_or, ◌∙◌, List, [], ◌∷◌, Bool, true, false, ◌&&◌, nat_le, length, take, drop, map, String, string_bytes, codes, ap, refl, sym, subst, Some, None, option_map, is_none, if◌then◌else◌, arith}
 use Rattle.std.specs.declared.option.Option.{Option}
 use Rattle.std.specs.declared.alloc.Global.{Global}
 use Rattle.std.specs.Option.{option_and_then}
+use Rattle.std.proofs.lemmas.Bool.Decides.{nat_tests}
 use Rattle.std.proofs.lemmas.List.{take_all}
 use Rattle.std.specs.Str.{bytes_eq}
+use Rattle.feed_list.specs.Values.{is_path, path_of}
+use Rattle.rt_command.specs.declared.command.Command.{Command}
+use Rattle.rt_command.specs.declared.command.Command.TheVariants as command
 use Rattle.rt_command.specs.declared.request.Request.{Request}
-use Rattle.rt_command.specs.declared.request.Request.TheVariants.{Check, Show, Encode}
+use Rattle.rt_command.specs.declared.request.Request.TheVariants.{Check, Follow, Show, Encode}
 use Rattle.rt_command.specs.declared.options.Options.{Options}
-use Rattle.rt_command.specs.Words.{request, no_options, check_of, file_of, with_option, is_name, NamesOne}
+use Rattle.rt_command.specs.Words.{request, no_options, are_files, check_of, follow_of, asked_of, options_of, file_of, with_option, HasFeeds}
 
-one_if : (b : Bool) (so other : Option Request) (asked : Request) → (Some asked ≡ so → NamesOne asked) → (Some asked ≡ other → NamesOne asked)
-    → Some asked ≡ (if b then so else other) → NamesOne asked
-one_if true so other asked one two e = one e
-one_if false so other asked one two e = two e
+-- ---- a request has a feed for each of its files
+either_of : (b : Bool) (so other : Option Request) (asked : Request) → (Some asked ≡ so → HasFeeds asked) → (Some asked ≡ other → HasFeeds asked)
+    → Some asked ≡ (if b then so else other) → HasFeeds asked
+either_of true so other asked one two e = one e
+either_of false so other asked one two e = two e
 
-none : (asked : Request) → Some asked ≡ None → NamesOne asked
+none : (asked : Request) → Some asked ≡ None → HasFeeds asked
 none asked e = absurd (cc e)
 
 some_same : (a b : Request) → Some a ≡ Some b → b ≡ a
 some_same a b e = cc e
 
-one_then : (options : Option Options) (found : Options → Option Request) (asked : Request) → ((more : Options) → Some asked ≡ found more → NamesOne asked) →
-    Some asked ≡ option_and_then found options → NamesOne asked
-one_then None found asked one e = absurd (cc e)
-one_then (Some more) found asked one e = one more e
+of_same : (a b : Request) → HasFeeds b → Some a ≡ Some b → HasFeeds a
+of_same a b has e = subst HasFeeds (some_same a b e) has
 
-check_names_one : (options : Options) (words : List (List ℕ)) (asked : Request) → Some asked ≡ check_of options words → NamesOne asked
-check_names_one options [] asked e = absurd (cc e)
-check_names_one options (file ∷ []) asked e =
-    one_if (is_name file) (Some (Check options.folder options.moment (file ∷ []))) None asked
-    (λ same. subst NamesOne (some_same asked (Check options.folder options.moment (file ∷ [])) same) refl) (none asked) e
-check_names_one options (name ∷ value ∷ words) asked e =
-    one_then (with_option options name value) (λ more. check_of more words) asked (λ more. check_names_one more words asked) e
+after_option : (options : Option Options) (found : Options → Option Request) (asked : Request) → ((more : Options) → Some asked ≡ found more → HasFeeds asked) →
+    Some asked ≡ option_and_then found options → HasFeeds asked
+after_option None found asked has e = absurd (cc e)
+after_option (Some more) found asked has e = has more e
 
-file_names_one : (ask : List ℕ → Request) → ((file : List ℕ) → NamesOne (ask file)) → (words : List (List ℕ)) (asked : Request) → Some asked ≡ file_of ask words → NamesOne asked
-file_names_one ask one [] asked e = absurd (cc e)
-file_names_one ask one (file ∷ []) asked e =
-    one_if (is_name file) (Some (ask file)) None asked (λ same. subst NamesOne (some_same asked (ask file) same) (one file)) (none asked) e
-file_names_one ask one (file ∷ more ∷ words) asked e = absurd (cc e)
+few : (n : ℕ) (a b : Bool) → (a && (nat_le 1 n && nat_le n 16 && b)) ≡ true → n ≤ 16
+few n a b h = grind (arith, nat_tests)
 
-pub request_names_one : (words : List (List ℕ)) (asked : Request) → Some asked ≡ request words → NamesOne asked
-request_names_one [] asked e = absurd (cc e)
-request_names_one (command ∷ words) asked e =
-    one_if (bytes_eq command (codes "check")) (check_of no_options words) _ asked (check_names_one no_options words asked)
-    (one_if (bytes_eq command (codes "show")) (file_of Show words) _ asked (file_names_one Show (λ file. tt) words asked)
-    (one_if (bytes_eq command (codes "encode")) (file_of Encode words) None asked (file_names_one Encode (λ file. tt) words asked) (none asked))) e
+check_has : (options : Options) (files : List (List ℕ)) (asked : Request) → Some asked ≡ check_of options files → HasFeeds asked
+check_has options files asked e = at (is_none options.list && are_files files) refl e
+  where
+    at : (b : Bool) → (is_none options.list && are_files files) ≡ b → Some asked ≡ (if b then Some (Check options.folder options.moment files) else None) → HasFeeds asked
+    at true is e = of_same asked (Check options.folder options.moment files) (few (length files) _ _ is) e
+    at false is e = none asked e
+
+mapped_has : (ask : List ℕ → Request) → ((text : List ℕ) → HasFeeds (ask text)) → (text : Option (List ℕ)) (asked : Request) → Some asked ≡ option_map ask text → HasFeeds asked
+mapped_has ask has None asked e = none asked e
+mapped_has ask has (Some text) asked e = of_same asked (ask text) (has text) e
+
+follow_has : (options : Options) (files : List (List ℕ)) (asked : Request) → Some asked ≡ follow_of options files → HasFeeds asked
+follow_has options [] asked e = either_of (is_none options.moment) (option_map (Follow options.folder) options.list) None asked (mapped_has (Follow options.folder) (λ text. tt) options.list asked) (none asked) e
+follow_has options (file ∷ files) asked e = none asked e
+
+asked_has : (name : Command) (options : Options) (files : List (List ℕ)) (asked : Request) → Some asked ≡ asked_of name options files → HasFeeds asked
+asked_has command.Check options files asked e = check_has options files asked e
+asked_has command.Follow options files asked e = follow_has options files asked e
+
+options_has : (name : Command) (options : Options) (words : List (List ℕ)) (asked : Request) → Some asked ≡ options_of name options words → HasFeeds asked
+options_has name options [] asked e = asked_has name options [] asked e
+options_has name options (word ∷ []) asked e = asked_has name options (word ∷ []) asked e
+options_has name options (word ∷ value ∷ words) asked e =
+    either_of (is_path word) (asked_of name options (word ∷ value ∷ words)) _ asked (asked_has name options (word ∷ value ∷ words) asked)
+    (after_option (with_option options word value) (λ more. options_of name more words) asked (λ more. options_has name more words asked)) e
+
+file_has : (ask : List ℕ → Request) → ((file : List ℕ) → HasFeeds (ask file)) → (words : List (List ℕ)) (asked : Request) → Some asked ≡ file_of ask words → HasFeeds asked
+file_has ask has [] asked e = none asked e
+file_has ask has (file ∷ []) asked e = mapped_has ask has (path_of file) asked e
+file_has ask has (file ∷ more ∷ words) asked e = none asked e
+
+pub request_has_feeds : (words : List (List ℕ)) (asked : Request) → Some asked ≡ request words → HasFeeds asked
+request_has_feeds [] asked e = none asked e
+request_has_feeds (name ∷ words) asked e =
+    either_of (bytes_eq name (codes "check")) (options_of command.Check no_options words) _ asked (options_has command.Check no_options words asked)
+    (either_of (bytes_eq name (codes "follow")) (options_of command.Follow no_options words) _ asked (options_has command.Follow no_options words asked)
+    (either_of (bytes_eq name (codes "show")) (file_of Show words) _ asked (file_has Show (λ file. tt) words asked)
+    (either_of (bytes_eq name (codes "encode")) (file_of Encode words) None asked (file_has Encode (λ file. tt) words asked) (none asked)))) e
+
+-- ---- words behind options
+-- fewer than two words hold no option and its value
+pub no_option : (name : Command) (options : Options) (words : List (String Global)) (found : Option Request) → length words < 2 →
+    found ≡ asked_of name options (map string_bytes words) → found ≡ options_of name options (map string_bytes words)
+no_option name options [] found few e = e
+no_option name options (word ∷ []) found few e = e
+no_option name options (x ∷ y ∷ words) found few e = absurd (omega arith)
+
+-- a word that may name a file isn't an option
+pub no_option_first : (name : Command) (options : Options) (words : List (String Global)) (word : String Global) (found : Option Request) → 2 ≤ length words → word ≡ get_or words 0 word →
+    is_path (string_bytes word) ≡ true → found ≡ asked_of name options (map string_bytes words) → found ≡ options_of name options (map string_bytes words)
+no_option_first name options [] word found two is path e = absurd (omega arith)
+no_option_first name options (x ∷ []) word found two is path e = absurd (omega arith)
+no_option_first name options (x ∷ y ∷ words) word found two is path e =
+    e ∙ sym (taken (is_path (string_bytes x)) (ap (λ w. is_path (string_bytes w)) (sym is) ∙ path))
+  where
+    taken : (b : Bool) → b ≡ true → {so other : Option Request} → (if b then so else other) ≡ so
+    taken true h = refl
+    taken false h = absurd (cc h)
+
+-- an option and its value before other words
+pub next_option : (name : Command) (words : List (String Global)) (word value : String Global) (options : Options) (with : Option Options) (found : Option Request) → 2 ≤ length words →
+    word ≡ get_or words 0 word → value ≡ get_or words 1 value → is_path (string_bytes word) ≡ false → with ≡ with_option options (string_bytes word) (string_bytes value) →
+    found ≡ option_and_then (λ more. options_of name more (map string_bytes (take (length words - 2) (drop 2 words)))) with → found ≡ options_of name options (map string_bytes words)
+next_option name [] word value options with found two w v path is e = absurd (omega arith)
+next_option name (x ∷ []) word value options with found two w v path is e = absurd (omega arith)
+next_option name (x ∷ y ∷ words) word value options with found two w v path is e =
+    e ∙ ap (λ rest. option_and_then (λ more. options_of name more (map string_bytes rest)) with) (take_all (length (x ∷ y ∷ words) - 2) words (omega arith))
+    ∙ ap (option_and_then (λ more. options_of name more (map string_bytes words)))
+    (is ∙ ap (λ word. with_option options (string_bytes word) (string_bytes value)) w ∙ ap (λ word. with_option options (string_bytes x) (string_bytes word)) v)
+    ∙ sym (left (is_path (string_bytes x)) (ap (λ w. is_path (string_bytes w)) (sym w) ∙ path))
+  where
+    left : (b : Bool) → b ≡ false → {so other : Option Request} → (if b then so else other) ≡ other
+    left false h = refl
+    left true h = absurd (cc h)
 
 -- the one name of a list
 pub one_name : (names list : List (List ℕ)) (first name : List ℕ) → length names ≡ 1 → list ≡ names → first ≡ get_or list 0 first → name ≡ first → name ∷ [] ≡ names
 one_name [] list first name one same is named = absurd (omega arith)
 one_name (x ∷ []) list first name one same is named = ap (λ n. n ∷ []) (named ∙ is ∙ ap (λ l. get_or l 0 first) same)
 one_name (x ∷ y ∷ names) list first name one same is named = absurd (omega arith)
-
--- an option and its value before other words
-pub next_option : (words : List (String Global)) (name value : String Global) (options more : Options) (found : Option Request) → 2 ≤ length words →
-    name ≡ get_or words 0 name → value ≡ get_or words 1 value → Some more ≡ with_option options (string_bytes name) (string_bytes value) →
-    found ≡ check_of more (map string_bytes (take (length words - 2) (drop 2 words))) → found ≡ check_of options (map string_bytes words)
-next_option [] name value options more found two n v is e = absurd (omega arith)
-next_option (x ∷ []) name value options more found two n v is e = absurd (omega arith)
-next_option (x ∷ y ∷ words) name value options more found two n v is e =
-    e ∙ ap (λ rest. check_of more (map string_bytes rest)) (take_all (length (x ∷ y ∷ words) - 2) words (omega arith))
-    ∙ ap (option_and_then (λ further. check_of further (map string_bytes words)))
-    (is ∙ ap (λ word. with_option options (string_bytes word) (string_bytes value)) n ∙ ap (λ word. with_option options (string_bytes x) (string_bytes word)) v)

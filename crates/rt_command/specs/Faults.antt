@@ -1,14 +1,21 @@
 -- What is written to the error stream where a run isn't carried out. (This profile.)
-use Rattle.std.specs.Prelude.{◌≡◌, ℕ, List, [], ◌∷◌, ◌++◌, ◌⊎◌, codes, Option, Some, None, IfSome, Contains, ⊤}
+use Rattle.std.specs.Prelude.{◌≡◌, ℕ, List, [], ◌∷◌, ◌++◌, ◌⊎◌, codes, map, Option, Some, None, IfSome, Ok, Contains, ⊤, ⊥}
+use Rattle.std.specs.FinMap.{get}
 use Rattle.std.specs.Io.KnownBytes.{append_known}
 use Rattle.rt_outside.specs.Causes.{Rose}
 use Rattle.rt_outside.specs.Sink.{AppendsPrefix, SinkState}
+use Rattle.rt_outside.specs.Store.{Contents}
+use Rattle.feed_list.specs.Lists.{list_in}
+use Rattle.feed_list.specs.Texts.{fault_text}
+use Rattle.feed_list.specs.declared.fault.ListFault.{ListFault}
+use Rattle.feed_list.specs.declared.fault.ListFault.TheVariants as list_fault
+use Rattle.feed_list.specs.declared.row.ListRow.{ListRow}
 use Rattle.rt_command.specs.declared.fault.Fault.{Fault}
 use Rattle.rt_command.specs.declared.fault.Fault.TheVariants as fault
 use Rattle.rt_command.specs.declared.input_fault.InputFault.{InputFault}
 use Rattle.rt_command.specs.declared.input_fault.InputFault.TheVariants as input
 use Rattle.rt_command.specs.declared.request.Request.{Request}
-use Rattle.rt_command.specs.declared.request.Request.TheVariants.{Check, Show, Encode}
+use Rattle.rt_command.specs.declared.request.Request.TheVariants.{Check, Follow, Show, Encode}
 use Rattle.rt_command.specs.declared.status.Status.{Status}
 use Rattle.rt_command.specs.declared.status.Status.TheVariants as answer
 use Rattle.rt_command.specs.Inputs.{refused_text, refusal_text}
@@ -37,12 +44,34 @@ IsTableFile (Some folder) name = (file : File) × (name ≡ path folder file)
 abbrev pub IsInput : Option (List ℕ) → List (List ℕ) → List ℕ → Type 0
 IsInput folder names name = Contains names name ⊎ IsTableFile folder name
 
+abbrev pub paths_of : List ListRow → List (List ℕ)
+paths_of rows = map (λ row. row.path) rows
+
+-- a path in a row of a list, which has the rows that its file says, where that is told
+pub record IsListed (told : Option Contents) (list name : List ℕ) : Type 0 where
+  pub rows : List ListRow
+  pub rows_are : IfSome told (λ held. list_in (get held list) ≡ Ok rows)
+  pub there : Contains (paths_of rows) name
+
+-- a file that `follow` reads: its list, a path of it, or one of the timetable's folder
+abbrev pub IsFollowed : Option Contents → Option (List ℕ) → List ℕ → List ℕ → Type 0
+IsFollowed told folder list name = (name ≡ list) ⊎ (IsListed told list name ⊎ IsTableFile folder name)
+
 -- the file of this name is one that the request reads
-abbrev pub Reads : Option Request → List ℕ → Type 0
-Reads None name = ⊥
-Reads (Some (Check folder now files)) name = IsInput folder files name
-Reads (Some (Show file)) name = Contains (file ∷ []) name
-Reads (Some (Encode file)) name = Contains (file ∷ []) name
+abbrev pub Reads : Option Request → Option Contents → List ℕ → Type 0
+Reads None told name = ⊥
+Reads (Some (Check folder now files)) told name = IsInput folder files name
+Reads (Some (Follow folder list)) told name = IsFollowed told folder list name
+Reads (Some (Show file)) told name = Contains (file ∷ []) name
+Reads (Some (Encode file)) told name = Contains (file ∷ []) name
+
+-- the requests that judge no snapshot
+abbrev pub IsWithoutEngine : Option Request → Type 0
+IsWithoutEngine None = ⊤
+IsWithoutEngine (Some (Check folder now files)) = ⊥
+IsWithoutEngine (Some (Follow folder list)) = ⊥
+IsWithoutEngine (Some (Show file)) = ⊤
+IsWithoutEngine (Some (Encode file)) = ⊤
 
 -- the texts that may stand on the error stream, where these files are read
 pub data IsErrorText (reads : List ℕ → Type 0) : List ℕ → Type 0 where
@@ -123,3 +152,11 @@ SaysInputFault file input.ReadFault before after result = Says (read_fault_text 
 SaysInputFault file input.Memory before after result = Says memory_text answer.Memory before after result
 SaysInputFault file fault before after result =
     Says (input_text file fault) answer.Refused before after result ⊎ Says memory_text answer.Memory before after result
+
+-- a list's fault was told: a read fault by the list's name, want of memory, or why it is refused, for which memory may be
+-- wanted
+abbrev pub SaysListFault : List ℕ → ListFault → SinkState → SinkState → Status → Type 0
+SaysListFault list list_fault.ReadFault before after result = Says (read_fault_text list) answer.ReadFault before after result
+SaysListFault list list_fault.Memory before after result = Says memory_text answer.Memory before after result
+SaysListFault list fault before after result =
+    Says (refused_text list (fault_text fault)) answer.Refused before after result ⊎ Says memory_text answer.Memory before after result

@@ -1,23 +1,50 @@
 -- What a snapshot's report is in the code: a function of what the snapshot says, which is the same as that of its bytes.
 use Rattle.std.specs.Prelude.{◌≡◌, ℕ, List, [], ◌∷◌, ◌++◌, length, Option, Result, Ok, Err}
+use Rattle.std.specs.List.{flat_map}
 use Rattle.feed_values.specs.Schema.{Value}
 use Rattle.feed_values.specs.Messages.{feed_message}
+use Rattle.feed_values.specs.Snapshot.{entities_of}
 use Rattle.feed_codec.specs.declared.refusal.Refusal.{Refusal}
 use Rattle.serde_json.specs.Written.{compact_text}
 use Rattle.feed_json.specs.Form.{form}
 use Rattle.timetable.specs.Timetables.{Tables}
 use Rattle.rule_core.specs.Answered.{tables_of}
+use Rattle.rule_core.specs.Findings.{findings}
+use Rattle.rule_core.specs.Found.{Found}
+use Rattle.rule_core.specs.History.{Snapshot}
 use Rattle.judging.specs.Judged.{snapshot_found}
+use Rattle.rt_report.specs.Lines.{line_of, accepted}
 use Rattle.rt_command.specs.declared.judge.Judged.{Judged}
 use Rattle.rt_command.specs.declared.status.Status.TheVariants as answer
 use Rattle.rt_command.specs.declared.wanted.Wanted.{Wanted}
 use Rattle.rt_command.specs.declared.wanted.Wanted.TheVariants.{Findings, Form}
-use Rattle.rt_command.specs.Report.{Report, refused_report, found_report, accepted_report, shown_report}
+use Rattle.rt_command.specs.Findings.{finding_text, has_error}
+use Rattle.rt_command.specs.Report.{Report, found, refused_report, shown_report}
 
 -- it has the report's text and answer
 pub record IsJudged (report : Report) (judged : Judged) : Type 0 where
   pub text : judged.text.items ≡ report.text
   pub status : judged.status ≡ report.status
+
+-- the line of the first snapshot of a run, whose entities are all new
+abbrev pub accepted_text : ℕ → ℕ → List ℕ
+accepted_text moment entities = line_of (accepted 0 0 0 moment entities entities entities entities)
+
+-- an accepted snapshot with so many entities is a line, and then its findings
+abbrev pub found_report : ℕ → ℕ → List Found → Report
+found_report moment entities findings = record { text = accepted_text moment entities ++ flat_map finding_text findings; errors = []; status = found (has_error findings) }
+
+-- the bytes of a snapshot of feed 0, taken at a moment
+abbrev pub first_taken : ℕ → List ℕ → Snapshot
+first_taken moment bytes = record { feed = 0; moment = moment; bytes = bytes }
+
+-- all findings with a timetable after the history of this one snapshot
+unfoldable pub snapshot_findings : Option Tables → ℕ → List ℕ → List Found
+snapshot_findings t moment bytes = findings t (first_taken moment bytes ∷ [])
+
+-- what `check` of one file makes of an accepted snapshot
+abbrev pub accepted_report : Option Tables → ℕ → List ℕ → Report
+accepted_report t moment bytes = found_report moment (length (entities_of bytes)) (snapshot_findings t moment bytes)
 
 -- what a command makes of an accepted snapshot, by what it wants
 abbrev pub accepts : Wanted → List ℕ → Report

@@ -4,6 +4,9 @@ pub mod Words
 pub mod Inputs
 pub mod JsonInputs
 pub mod Findings
+pub mod Rows
+pub mod Followed
+pub mod Pieces
 pub mod Found
 pub mod Judged
 pub mod Faults

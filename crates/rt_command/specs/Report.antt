@@ -1,13 +1,13 @@
 -- What a run is to write and to answer: a function of the words, the moment and what the files hold.
 -- It doesn't see how the bytes arrive. (This profile.)
-use Rattle.std.specs.Prelude.{ℕ, List, [], ◌∷◌, ◌++◌, length, codes, if◌then◌else◌, Option, Some, None, Result, Ok, Err, unwrap_or}
+use Rattle.std.specs.Prelude.{ℕ, Bool, ◌||◌, List, [], ◌∷◌, ◌++◌, codes, if◌then◌else◌, Option, Some, None, Result, Ok, Err, unwrap_or}
 use Rattle.std.specs.List.{flat_map}
 use Rattle.std.specs.FinMap.{get}
 use Rattle.rt_outside.specs.Store.{Contents}
 use Rattle.feed_values.specs.Schema.{Value}
 use Rattle.serde_json.specs.Written.{compact_text}
 use Rattle.feed_values.specs.Messages.{feed_message}
-use Rattle.feed_values.specs.Snapshot.{snapshot_value, entities_of}
+use Rattle.feed_values.specs.Snapshot.{snapshot_value}
 use Rattle.feed_values.specs.Canonical.{canonical}
 use Rattle.feed_json.specs.Form.{form}
 use Rattle.feed_codec.specs.declared.refusal.Reason.TheVariants.{NoFile}
@@ -15,18 +15,23 @@ use Rattle.feed_codec.specs.declared.refusal.Refusal.{Refusal}
 use Rattle.feed_codec.specs.Refusal.{refusal}
 use Rattle.feed_codec.specs.Refusal.{refused as refused_at}
 use Rattle.timetable.specs.Timetables.{Tables}
-use Rattle.rule_core.specs.Found.{Found}
-use Rattle.rule_core.specs.History.{Snapshot}
-use Rattle.rule_core.specs.Findings.{findings}
-use Rattle.rt_report.specs.Lines.{line_of, accepted, refused}
+use Rattle.feed_list.specs.Lists.{list_in}
+use Rattle.feed_list.specs.Texts.{fault_text}
+use Rattle.feed_list.specs.declared.fault.ListFault.{ListFault}
+use Rattle.feed_list.specs.declared.row.ListRow.{ListRow}
+use Rattle.engine_laws.specs.Computed.{standings}
+use Rattle.rt_report.specs.Lines.{line_of, refused}
+use Rattle.rt_report.specs.declared.finding.LineKind.TheVariants as line
 use Rattle.rt_command.specs.declared.input_fault.InputFault.{InputFault}
 use Rattle.rt_command.specs.declared.request.Request.{Request}
-use Rattle.rt_command.specs.declared.request.Request.TheVariants.{Check, Show, Encode}
+use Rattle.rt_command.specs.declared.request.Request.TheVariants.{Check, Follow, Show, Encode}
 use Rattle.rt_command.specs.declared.status.Status.{Status}
 use Rattle.rt_command.specs.declared.status.Status.TheVariants as answer
-use Rattle.rt_command.specs.Findings.{finding_text, has_error}
-use Rattle.rt_command.specs.Inputs.{timetable_refusal, timetable_of}
+use Rattle.rt_command.specs.declared.telling.Telling.TheVariants.{Counts, Changes}
+use Rattle.rt_command.specs.Findings.{standing_text, any_error}
+use Rattle.rt_command.specs.Inputs.{refused_text, timetable_refusal, timetable_of}
 use Rattle.rt_command.specs.JsonInputs.{input_message, input_text}
+use Rattle.rt_command.specs.Rows.{Outcome, all_rows, file_rows}
 use Rattle.rt_command.specs.Words.{request}
 
 -- the text for the output, the text for the errors, and the answer
@@ -38,30 +43,6 @@ pub record Report : Type 0 where
 -- a refused snapshot is a line, and something found
 abbrev pub refused_report : Refusal → Report
 refused_report refusal = record { text = line_of (refused 0 refusal); errors = []; status = answer.Found }
-
--- the line of the first snapshot of a run, whose entities are all new
-abbrev pub accepted_text : ℕ → ℕ → List ℕ
-accepted_text moment entities = line_of (accepted 0 0 0 moment entities entities entities entities)
-
--- the answer that findings give
-abbrev pub found : List Found → Status
-found findings = if has_error findings then answer.Found else answer.Clean
-
--- an accepted snapshot with so many entities is a line, and then its findings
-abbrev pub found_report : ℕ → ℕ → List Found → Report
-found_report moment entities findings = record { text = accepted_text moment entities ++ flat_map finding_text findings; errors = []; status = found findings }
-
--- the bytes of a snapshot of feed 0, taken at a moment
-abbrev pub taken : ℕ → List ℕ → Snapshot
-taken moment bytes = record { feed = 0; moment = moment; bytes = bytes }
-
--- all findings with a timetable after the history of this one snapshot
-unfoldable pub snapshot_findings : Option Tables → ℕ → List ℕ → List Found
-snapshot_findings t moment bytes = findings t (taken moment bytes ∷ [])
-
--- what `check` makes of an accepted snapshot
-abbrev pub accepted_report : Option Tables → ℕ → List ℕ → Report
-accepted_report t moment bytes = found_report moment (length (entities_of bytes)) (snapshot_findings t moment bytes)
 
 -- what `show` makes of one: its form is a line
 abbrev pub shown_report : List ℕ → Report
@@ -77,10 +58,28 @@ abbrev pub snapshot_report : (List ℕ → Report) → Option (List ℕ) → Rep
 snapshot_report accepts None = refused_report (refused_at 0 NoFile)
 snapshot_report accepts (Some bytes) = judged_report accepts bytes (refusal bytes)
 
--- the report on a file; a request of `check` names one, so the other cases are of no account
-abbrev pub files_report : (List ℕ → Report) → List (List ℕ) → Contents → Report
-files_report accepts [] contents = record { text = []; errors = []; status = answer.Clean }
-files_report accepts (file ∷ files) contents = snapshot_report accepts (get contents file)
+abbrev pub file_report : (List ℕ → Report) → List ℕ → Contents → Report
+file_report accepts file contents = snapshot_report accepts (get contents file)
+
+-- the answer that is given where errors were found, and where none
+abbrev pub found : Bool → Status
+found error = if error then answer.Found else answer.Clean
+
+-- the report of `follow` on rows
+abbrev pub followed : Outcome → Report
+followed o = record { text = o.text; errors = []; status = found o.error }
+
+-- that of `check`: behind the lines of all files stand all findings
+abbrev pub checked : Option Tables → Outcome → Report
+checked t o = record {
+  text = o.text ++ flat_map (standing_text line.Finding) (standings t o.after);
+  errors = [];
+  status = found (o.error || any_error (standings t o.after));
+}
+
+-- the report on files, which are snapshots of as many feeds, at one moment
+abbrev pub files_report : Option Tables → ℕ → List (List ℕ) → Contents → Report
+files_report t moment files contents = checked t (all_rows Counts t contents (file_rows 0 moment files))
 
 -- an input that is refused ends the run with its text, before any snapshot is read
 abbrev pub refused_input : List ℕ → Report
@@ -90,9 +89,23 @@ abbrev pub unless_refused : Option (List ℕ) → Report → Report
 unless_refused None report = report
 unless_refused (Some text) report = refused_input text
 
--- the report of `check`, with a timetable where a folder is given
+-- a report with the timetable of a folder, where one is given, unless that is refused
+abbrev pub with_timetable : (Option Tables → Contents → Report) → Option (List ℕ) → Contents → Report
+with_timetable report folder contents = unless_refused (timetable_refusal folder contents) (report (timetable_of folder contents) contents)
+
 abbrev pub check_report : Option (List ℕ) → ℕ → List (List ℕ) → Contents → Report
-check_report folder moment files contents = unless_refused (timetable_refusal folder contents) (files_report (accepted_report (timetable_of folder contents) moment) files contents)
+check_report folder moment files = with_timetable (λ t. files_report t moment files) folder
+
+-- the report of `follow` with a timetable: its list may be refused
+abbrev pub rows_report : Option Tables → List ℕ → Result (List ListRow) ListFault → Contents → Report
+rows_report t list (Err fault) contents = refused_input (refused_text list (fault_text fault))
+rows_report t list (Ok rows) contents = followed (all_rows Changes t contents rows)
+
+abbrev pub list_report : List ℕ → Option Tables → Contents → Report
+list_report list t contents = rows_report t list (list_in (get contents list)) contents
+
+abbrev pub follow_report : Option (List ℕ) → List ℕ → Contents → Report
+follow_report folder list = with_timetable (list_report list) folder
 
 -- the report of `encode`: the canonical bytes of the snapshot that its file says, or why the file is refused
 abbrev pub written_report : List ℕ → Result (Value feed_message) InputFault → Report
@@ -105,7 +118,8 @@ encode_report file contents = written_report file (input_message (get contents f
 -- the report on a request; the moment of `check` is that of its words, or else the clock's
 abbrev pub asked_report : Request → ℕ → Contents → Report
 asked_report (Check folder moment files) now contents = check_report folder (unwrap_or moment now) files contents
-asked_report (Show file) now contents = snapshot_report shown_report (get contents file)
+asked_report (Follow folder list) now contents = follow_report folder list contents
+asked_report (Show file) now contents = file_report shown_report file contents
 asked_report (Encode file) now contents = encode_report file contents
 
 abbrev pub usage_text : List ℕ

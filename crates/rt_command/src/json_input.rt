@@ -15,6 +15,7 @@ ghost use Rattle.rt_command.specs.declared.input_fault.InputFault.TheVariants as
 
 use crate::fault::Fault;
 use crate::input_fault::InputFault;
+use crate::refusal::refused_text;
 use crate::say::{say, say_fault, say_memory};
 use crate::status::Status;
 use feed_json::from_json;
@@ -110,13 +111,6 @@ fn input_text(alloc: Global, name: &str, fault: &InputFault) -> Result<String, A
         InputFault::MissingKey(path) => refused_at(alloc, name, path.as_str(), "missing key"),
         InputFault::ReadFault | InputFault::Memory => Ok(String::new(alloc)),
     }
-}
-
-// The text of what is wrong with a file.
-fn refused_text(alloc: Global, name: &str, why: &str) -> Result<String, AllocError>
-    ensures { IfOk result (λ text. string_bytes text ≡ refused_text name.now why.now) }
-{
-    format!(in alloc; "refused: {name}: {why}\n")
 }
 
 // The text of what is wrong at a path in a file.

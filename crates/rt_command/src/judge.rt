@@ -70,14 +70,6 @@ fn judge(
     }
 }
 
-// The answer that findings give, by whether one is of an error.
-fn status(error: bool) -> Status
-    ensures answer { result ≡ if error then Status.Found else Status.Clean }
-    ensures carried_out { IsCarriedOut result }
-{
-    if error { Status::Found } else { Status::Clean }
-}
-
 // The report on an accepted snapshot: its line, and then its findings. All its entities are new.
 fn accepted(
     alloc: Global,
@@ -104,7 +96,7 @@ fn accepted(
     let Lines { text, error } = lines;
     Ok(Judged {
         text,
-        status: status(error),
+        status: Status::found(error),
     })
 }
 

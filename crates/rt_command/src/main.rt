@@ -7,37 +7,46 @@
 //!
 //! From the bottom up:
 //! - `status` and `fault` are how a run ends, and why it stops before its end.
-//! - `options` and `request` are what the words ask for, and `words` reads them.
+//! - `command`, `options` and `request` are what the words ask for, and `words` reads them.
 //! - `lines` has the lines of findings, and `findings` those of a snapshot by itself, by all rules.
 //! - `snapshot_file` reads a snapshot, and `judge` makes the report on it, by what is `wanted` of it: its findings or its JSON
 //!   form.
 //! - `json_input` reads the snapshot that a JSON file says, and `input_fault` is why it isn't had.
-//! - `say` writes to the error stream, and `refusal` why a timetable isn't loaded.
-//! - `report_file` writes the report on one file, which is all of `show`. `check` and `encode` carry out their commands, and
-//!   `run` the request of the words.
+//! - `say` writes to the error stream, `refusal` why a timetable isn't loaded, and `list_fault` why a list isn't read.
+//! - `row` puts the snapshot of one row into the engine that follows feeds, and `rows` those of all rows; `telling` is what is
+//!   told of each.
+//! - `report_file` writes the report on one file, which is all of `show`. `check`, with `check_feeds` for several files,
+//!   `follow` and `encode` carry out their commands, and `run` the request of the words.
 //! - `main` joins `run` to the system: its files, its streams, its clock and its words.
 #![tactic(auto)]
 
 ghost use Rattle.std.specs.Prelude.{◌≡◌};
 
 mod check;
+mod check_feeds;
+mod command;
 mod encode;
 mod fault;
 mod findings;
+mod follow;
 #[cfg(test)]
 mod form_tests;
 mod input_fault;
 mod json_input;
 mod judge;
 mod lines;
+mod list_fault;
 mod options;
 mod refusal;
 mod report_file;
 mod request;
+mod row;
+mod rows;
 mod run;
 mod say;
 mod snapshot_file;
 mod status;
+mod telling;
 #[cfg(test)]
 mod tests;
 #[cfg(test)]

@@ -1,8 +1,9 @@
 //! The options of a command line.
 ghost use Rattle.std.specs.Prelude.{◌≡◌, IfOk};
-ghost use Rattle.rt_command.specs.Words.{with_folder, with_moment, with_option};
+ghost use Rattle.feed_list.specs.Values.{path_of};
+ghost use Rattle.rt_command.specs.Words.{no_options, with_folder, with_moment, with_list, with_text, with_option};
 
-use crate::words::{is_name, number_of, text_of};
+use feed_list::{is_path, number_of};
 use feed_values::Text;
 use std::alloc::{AllocError, Global};
 
@@ -13,47 +14,100 @@ pub struct Options {
     pub folder: Option<Text>,
     /// The moment that snapshots are judged at, as POSIX time in seconds.
     pub moment: Option<u64>,
+    /// The file of a list of snapshots.
+    pub list: Option<Text>,
 }
 
 impl Options {
+    /// None of them.
+    pub fn none() -> Options
+        ensures { result ≡ no_options }
+    {
+        Options {
+            folder: None,
+            moment: None,
+            list: None,
+        }
+    }
+
     /// The options with one more and its value, or none where it is no option, was given already, or
     /// has another kind of value.
     pub fn with(self, alloc: Global, name: &str, value: &str) -> Result<Option<Options>, AllocError>
         ensures { IfOk result (λ found. found ≡ with_option self name.now value.now) }
     {
-        if name == "--timetable" {
-            self.with_folder(alloc, value)
-        } else if name == "--now" {
-            Ok(self.with_moment(value))
-        } else {
-            Ok(None)
+        if name == "--now" {
+            return Ok(match number_of(value) {
+                Some(moment) => self.with_moment(moment),
+                None => None,
+            });
+        }
+        match path_of(alloc, value)? {
+            Some(text) => Ok(self.with_text(name, text)),
+            None => Ok(None),
         }
     }
 
-    // The options with a folder that the word names.
-    fn with_folder(self, alloc: Global, word: &str) -> Result<Option<Options>, AllocError>
-        ensures { IfOk result (λ found. found ≡ with_folder self word.now) }
+    // The options with the one of this name, whose value is a text.
+    fn with_text(self, name: &str, text: Text) -> Option<Options>
+        ensures { result ≡ with_text self name.now text }
     {
-        if self.folder.is_some() || !is_name(word) {
-            return Ok(None);
+        if name == "--timetable" {
+            self.with_folder(text)
+        } else if name == "--list" {
+            self.with_list(text)
+        } else {
+            None
         }
-        Ok(Some(Options {
-            folder: Some(text_of(alloc, word)?),
-            moment: self.moment,
-        }))
     }
 
-    // The options with the moment that the word writes.
-    fn with_moment(self, word: &str) -> Option<Options>
-        ensures { result ≡ with_moment self word.now }
+    fn with_folder(self, folder: Text) -> Option<Options>
+        ensures { result ≡ with_folder self folder }
+    {
+        if self.folder.is_some() {
+            return None;
+        }
+        Some(Options {
+            folder: Some(folder),
+            moment: self.moment,
+            list: self.list,
+        })
+    }
+
+    fn with_moment(self, moment: u64) -> Option<Options>
+        ensures { result ≡ with_moment self moment }
     {
         if self.moment.is_some() {
             return None;
         }
-        let moment = number_of(word)?;
         Some(Options {
             folder: self.folder,
             moment: Some(moment),
+            list: self.list,
         })
     }
+
+    fn with_list(self, list: Text) -> Option<Options>
+        ensures { result ≡ with_list self list }
+    {
+        if self.list.is_some() {
+            return None;
+        }
+        Some(Options {
+            folder: self.folder,
+            moment: self.moment,
+            list: Some(list),
+        })
+    }
+}
+
+/// The text of a word that may name a file: it isn't empty and doesn't begin with a dash.
+pub fn path_of(alloc: Global, word: &str) -> Result<Option<Text>, AllocError>
+    ensures { IfOk result (λ text. text ≡ path_of word.now) }
+{
+    if !is_path(word) {
+        return Ok(None);
+    }
+    let mut text = Text::new(alloc);
+    text.push(word)?;
+    Ok(Some(text))
 }

@@ -1,6 +1,6 @@
-//! Why a timetable isn't loaded.
+//! Why an input is refused.
 ghost use Rattle.std.specs.Prelude.{◌≡◌, IfOk, string_bytes};
-ghost use Rattle.rt_command.specs.Inputs.{refusal_text};
+ghost use Rattle.rt_command.specs.Inputs.{refused_text, refusal_text};
 ghost use Rattle.rt_command.specs.Faults.{SaysLoadFault};
 
 use crate::say::{say, say_memory, say_read_fault_in};
@@ -60,4 +60,11 @@ fn refusal_text(alloc: Global, folder: &str, fault: LoadFault) -> Result<String,
         }
         LoadFault::ReadFault(_) | LoadFault::Memory => Ok(String::new(alloc)),
     }
+}
+
+/// The text of what is wrong with the file of this name.
+pub fn refused_text(alloc: Global, name: &str, why: &str) -> Result<String, AllocError>
+    ensures { IfOk result (λ text. string_bytes text ≡ refused_text name.now why.now) }
+{
+    format!(in alloc; "refused: {name}: {why}\n")
 }

@@ -5,7 +5,7 @@ ghost use Rattle.std.specs.Io.KnownBytes.{append_known};
 ghost use Rattle.rt_outside.specs.Causes.{Rose};
 ghost use Rattle.rt_outside.specs.Sink.{AppendsPrefix};
 ghost use Rattle.rt_outside.specs.Store.{contents_told};
-ghost use Rattle.rt_command.specs.Report.{snapshot_report, files_report};
+ghost use Rattle.rt_command.specs.Report.{snapshot_report, file_report};
 ghost use Rattle.rt_command.specs.Judged.{accepts};
 ghost use Rattle.rt_command.specs.Carried.{CarriesOut};
 ghost use Rattle.rt_command.specs.Outside.{outside};
@@ -28,7 +28,7 @@ pub fn report_file<F: Files, S: Sink, E: Sink>(
     out: &mut S,
     err: &mut E,
 ) -> Status
-    ensures { CarriesOut (files_report (accepts wanted.entry) (file.now ∷ [])) (Contains (file.now ∷ []))
+    ensures { CarriesOut (file_report (accepts wanted.entry) file.now) (Contains (file.now ∷ []))
         (outside (F.state files.old) (S.state out.old) (E.state err.old))
         (outside (F.state files.new) (S.state out.new) (E.state err.new)) result }
 {

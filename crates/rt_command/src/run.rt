@@ -4,14 +4,15 @@ ghost use Rattle.std.specs.Io.KnownBytes.{append_known};
 ghost use Rattle.rt_outside.specs.Causes.{Rose};
 ghost use Rattle.rt_outside.specs.Sink.{AppendsPrefix};
 ghost use Rattle.rt_outside.specs.Store.{contents_told};
-ghost use Rattle.rt_command.specs.Words.{request, NamesOne};
+ghost use Rattle.rt_command.specs.Words.{request, HasFeeds};
 ghost use Rattle.rt_command.specs.Report.{report, asked_report};
 ghost use Rattle.rt_command.specs.Carried.{CarriesOut};
 ghost use Rattle.rt_command.specs.Outside.{outside};
-ghost use Rattle.rt_command.specs.Faults.{Reads, IsReported, IsWithoutRequest, TellsFault};
+ghost use Rattle.rt_command.specs.Faults.{Reads, IsReported, IsWithoutRequest, IsWithoutEngine, TellsFault};
 
 use crate::check::check;
 use crate::encode::encode;
+use crate::follow::follow;
 use crate::report_file::report_file;
 use crate::request::Request;
 use crate::say::{say, say_memory};
@@ -34,7 +35,7 @@ const USAGE: &[u8] = b"usage: rt_command check [--timetable DIR] [--now N] FILE.
 /// time in seconds.
 ///
 /// Want of memory is the one answer that may come at any time. The two counters, of decodings and
-/// of rule tests, are for the engine that follows feeds.
+/// of rule tests, are handed to the engine that follows feeds.
 pub fn run<F: Files, S: Sink, E: Sink, D: Ledger, T: Ledger>(
     alloc: Global,
     words: &[String],
@@ -71,33 +72,37 @@ pub fn run<F: Files, S: Sink, E: Sink, D: Ledger, T: Ledger>(
         → Rose (S.state out.old).faults (S.state out.new).faults ⊎ Rose (E.state err.old).faults (E.state err.new).faults }
 
     // Each fault is told on the error stream.
-    ensures told { TellsFault (Reads (request (map string_bytes words.now))) (F.state files.new).asked
+    ensures told { TellsFault (Reads (request (map string_bytes words.now)) (contents_told (F.state files.old).told)) (F.state files.new).asked
         (E.state err.old) (E.state err.new) result }
 
-    // No command decodes or tests through the counters yet.
-    ensures decodes { decodes.new ≡ decodes.old }
-    ensures tests { tests.new ≡ tests.old }
+    // The counters stay where no snapshot is judged.
+    ensures decodes { IsWithoutEngine (request (map string_bytes words.now)) → decodes.new ≡ decodes.old }
+    ensures tests { IsWithoutEngine (request (map string_bytes words.now)) → tests.new ≡ tests.old }
 {
     match words_of(alloc, words) {
         Err(_) => say_memory(err),
         Ok(None) => say(err, USAGE, Status::Usage),
-        Ok(Some(request)) => carry_out(alloc, &request, now, files, out, err),
+        Ok(Some(request)) => carry_out(alloc, &request, now, files, out, err, decodes, tests),
     }
 }
 
 // Carries out a request.
-fn carry_out<F: Files, S: Sink, E: Sink>(
+fn carry_out<F: Files, S: Sink, E: Sink, D: Ledger, T: Ledger>(
     alloc: Global,
     request: &Request,
     now: u64,
     files: &mut F,
     out: &mut S,
     err: &mut E,
+    decodes: &mut Steps<D>,
+    tests: &mut Steps<T>,
 ) -> Status
-    requires { NamesOne request.now }
-    ensures { CarriesOut (asked_report request.now now) (Reads (Some request.now))
+    requires { HasFeeds request.now }
+    ensures carried { CarriesOut (asked_report request.now now) (Reads (Some request.now) (contents_told (F.state files.old).told))
         (outside (F.state files.old) (S.state out.old) (E.state err.old))
         (outside (F.state files.new) (S.state out.new) (E.state err.new)) result }
+    ensures decodes { IsWithoutEngine (Some request.now) → decodes.new ≡ decodes.old }
+    ensures tests { IsWithoutEngine (Some request.now) → tests.new ≡ tests.old }
 {
     match request {
         Request::Check {
@@ -106,7 +111,23 @@ fn carry_out<F: Files, S: Sink, E: Sink>(
             files: names,
         } => {
             let moment = moment.unwrap_or(now);
-            check(alloc, moment, folder.as_ref(), names, files, out, err)
+            let folder = folder.as_ref();
+            check(
+                alloc, moment, folder, names, files, out, err, decodes, tests,
+            )
+        }
+        Request::Follow { folder, list } => {
+            let folder = folder.as_ref();
+            follow(
+                alloc,
+                folder,
+                list.as_str(),
+                files,
+                out,
+                err,
+                decodes,
+                tests,
+            )
         }
         Request::Show { file } => {
             report_file(alloc, Wanted::Form, file.as_str(), files, out, err)

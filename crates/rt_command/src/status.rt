@@ -1,6 +1,8 @@
 //! How a run ends.
 ghost use Rattle.std.specs.Prelude.{◌≡◌};
 ghost use Rattle.rt_command.specs.Exits.{exit_number};
+ghost use Rattle.rt_command.specs.Faults.{IsCarriedOut};
+ghost use Rattle.rt_command.specs.Report.{found};
 
 /// What a run answers.
 #[derive(Clone, Copy, Debug, PartialEq, Eq)]
@@ -17,11 +19,19 @@ pub enum Status {
     WriteFault,
     /// No memory was found.
     Memory,
-    /// The timetable or the JSON file was refused.
+    /// The timetable, the list or the JSON file was refused.
     Refused,
 }
 
 impl Status {
+    /// The answer of a request that was carried out, by whether an error was found.
+    pub fn found(error: bool) -> Status
+        ensures answer { result ≡ found error }
+        ensures carried_out { IsCarriedOut result }
+    {
+        if error { Status::Found } else { Status::Clean }
+    }
+
     /// The exit status of the program.
     pub fn number(self) -> u8
         ensures { result ≡ exit_number self }

@@ -1,20 +1,26 @@
 //! The words of a command line.
-ghost use Rattle.std.specs.Prelude.{◌≡◌, ◌∷◌, [], IfOk, map, option_map, string_bytes};
-ghost use Rattle.std.specs.Char.{is_ascii_digit};
+ghost use Rattle.std.specs.Prelude.{◌≡◌, IfOk, ◌∷◌, map, option_map, string_bytes};
 ghost use Rattle.std.specs.List.{list_all};
-ghost use Rattle.rt_command.specs.Words.{is_name, number_of, no_options, check_of, file_of, request};
+ghost use Rattle.feed_list.specs.Values as values;
+ghost use Rattle.rt_command.specs.Words.{are_files, asked_of, check_of, follow_of, options_of, file_of, request};
 ghost use Rattle.rt_command.specs.declared.request.Request.TheVariants.{Show, Encode};
 
-use crate::options::Options;
+use crate::command::Command;
+use crate::options::{Options, path_of};
 use crate::request::Request;
+use feed_list::is_path;
 use feed_values::{Items, Text};
 use std::alloc::{AllocError, Global};
 
+/// The most feeds that there may be.
+const FEEDS: usize = 16;
+
 /// The request of the words after the program's name, or none where they give no request.
 ///
-/// So far these are `check` with one file, and before it `--timetable` with a folder and `--now` with a
-/// moment, in any order and each at most once; and `show` and `encode`, each with one file. A number has
-/// 1 to 20 digits, and its value fits 64 bits. No file and no folder is empty or begins with a dash.
+/// So far these are `check` with 1 to 16 files, and before them `--timetable` with a folder and `--now` with a moment;
+/// `follow` with `--list` and a file, and `--timetable` with a folder; and `show` and `encode`, each with one file. Options
+/// stand before the files in any order, each at most once. A number has 1 to 20 digits, and its value fits 64 bits. No
+/// file and no folder is empty or begins with a dash.
 pub fn words_of(alloc: Global, words: &[String]) -> Result<Option<Request>, AllocError>
     ensures { IfOk result (λ found. found ≡ request (map string_bytes words.now)) }
 {
@@ -29,7 +35,9 @@ fn request_of(alloc: Global, command: &str, words: &[String]) -> Result<Option<R
     ensures { IfOk result (λ found. found ≡ request (command.now ∷ map string_bytes words.now)) }
 {
     if command == "check" {
-        check_of(alloc, no_options(), words)
+        options_of(alloc, Command::Check, Options::none(), words)
+    } else if command == "follow" {
+        options_of(alloc, Command::Follow, Options::none(), words)
     } else if command == "show" {
         Ok(file_of(alloc, words)?.map(|file| Request::Show { file }))
     } else if command == "encode" {
@@ -45,82 +53,102 @@ fn file_of(alloc: Global, words: &[String]) -> Result<Option<Text>, AllocError>
     ensures encode { IfOk result (λ file. option_map Encode file ≡ file_of Encode (map string_bytes words.now)) }
 {
     match words {
-        [file] if is_name(file.as_str()) => Ok(Some(text_of(alloc, file.as_str())?)),
+        [file] => path_of(alloc, file.as_str()),
         _ => Ok(None),
     }
 }
 
-fn no_options() -> Options
-    ensures { result ≡ no_options }
-{
-    Options {
-        folder: None,
-        moment: None,
-    }
-}
-
-// The request of the words after `check` and these options.
-fn check_of(
+// The request of a command with these options and the words behind them, of which the first may be further options.
+fn options_of(
     alloc: Global,
+    command: Command,
     options: Options,
     words: &[String],
 ) -> Result<Option<Request>, AllocError>
-    ensures { IfOk result (λ found. found ≡ check_of options (map string_bytes words.now)) }
+    ensures { IfOk result (λ found. found ≡ options_of command options (map string_bytes words.now)) }
 {
     match words {
-        [file] if is_name(file.as_str()) => Ok(Some(Request::Check {
-            folder: options.folder,
-            now: options.moment,
-            files: one_text(alloc, file.as_str())?,
-        })),
-        [name, value, words @ ..] => {
+        [name, value, rest @ ..] => {
+            if is_path(name.as_str()) {
+                return asked_of(alloc, command, options, words);
+            }
             match options.with(alloc, name.as_str(), value.as_str())? {
-                Some(options) => check_of(alloc, options, words),
+                Some(options) => options_of(alloc, command, options, rest),
                 None => Ok(None),
             }
         }
-        _ => Ok(None),
+        _ => asked_of(alloc, command, options, words),
     }
 }
 
-/// The number that a word writes.
-pub fn number_of(word: &str) -> Option<u64>
-    ensures { result ≡ number_of word.now }
+// The request of a command with these options and the words that are none.
+fn asked_of(
+    alloc: Global,
+    command: Command,
+    options: Options,
+    files: &[String],
+) -> Result<Option<Request>, AllocError>
+    ensures { IfOk result (λ found. found ≡ asked_of command options (map string_bytes files.now)) }
 {
-    if word.len() > 20 || !are_digits(word) {
+    match command {
+        Command::Check => check_of(alloc, options, files),
+        Command::Follow => Ok(follow_of(options, files)),
+    }
+}
+
+fn check_of(
+    alloc: Global,
+    options: Options,
+    files: &[String],
+) -> Result<Option<Request>, AllocError>
+    ensures { IfOk result (λ found. found ≡ check_of options (map string_bytes files.now)) }
+{
+    if options.list.is_some() || !are_files(files) {
+        return Ok(None);
+    }
+    let files = texts_of(alloc, files)?;
+    Ok(Some(Request::Check {
+        folder: options.folder,
+        now: options.moment,
+        files,
+    }))
+}
+
+fn follow_of(options: Options, files: &[String]) -> Option<Request>
+    ensures { result ≡ follow_of options (map string_bytes files.now) }
+{
+    if options.moment.is_some() || !files.is_empty() {
         return None;
     }
-    word.parse().ok()
+    let list = options.list?;
+    Some(Request::Follow {
+        folder: options.folder,
+        list,
+    })
 }
 
-// Whether a word has digits alone.
-fn are_digits(word: &str) -> bool
-    ensures { result ≡ list_all is_ascii_digit word.now }
+// Whether these words are files, one for each feed.
+fn are_files(words: &[String]) -> bool
+    ensures { result ≡ are_files (map string_bytes words.now) }
 {
-    word.bytes().all(|byte| byte.is_ascii_digit())
+    !words.is_empty() && words.len() <= FEEDS && are_paths(words)
 }
 
-/// Whether a word may name a file: it isn't empty and doesn't begin with a dash.
-pub fn is_name(word: &str) -> bool
-    ensures { result ≡ is_name word.now }
+fn are_paths(words: &[String]) -> bool
+    ensures { result ≡ list_all values.is_path (map string_bytes words.now) }
 {
-    !word.is_empty() && word.as_bytes()[0] != b'-'
+    words.iter().all(|word| is_path(word.as_str()))
 }
 
-/// The text of a word.
-pub fn text_of(alloc: Global, word: &str) -> Result<Text, AllocError>
-    ensures { IfOk result (λ text. text ≡ word.now) }
-{
-    let mut text = Text::new(alloc);
-    text.push(word)?;
-    Ok(text)
-}
-
-// The list of one text.
-fn one_text(alloc: Global, word: &str) -> Result<Items<Text>, AllocError>
-    ensures { IfOk result (λ texts. texts ≡ word.now ∷ []) }
+// The list of these words.
+fn texts_of(alloc: Global, words: &[String]) -> Result<Items<Text>, AllocError>
+    ensures { IfOk result (λ texts. texts ≡ map string_bytes words.now) }
 {
     let mut texts = Items::new(alloc);
-    texts.push(text_of(alloc, word)?)?;
+    for word in words {
+        let mut text = Text::new(alloc);
+        text.push(word.as_str())?;
+        texts.push(text)?;
+    }
     Ok(texts)
 }

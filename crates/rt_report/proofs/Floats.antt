@@ -10,7 +10,8 @@ use Rattle.rule_core.specs.declared.place.Place.{Place}
 use Rattle.rule_core.specs.declared.place.Place.TheVariants as place
 use Rattle.rule_core.specs.Found.{Found}
 use Rattle.rt_report.specs.declared.finding.LineKind.{LineKind}
-use Rattle.rt_report.specs.Lines.{cell_data, fact_data, ask_keys, finding_at}
+use Rattle.rule_core.specs.declared.rule.RuleId.{RuleId}
+use Rattle.rt_report.specs.Lines.{cell_data, fact_data, ask_keys, finding_at, closed_data}
 
 cell_has_none : (cell : CellValue) → has_float (cell_data cell) ≡ false
 cell_has_none Missing = refl
@@ -29,3 +30,7 @@ facts_have_none (f ∷ fs) = rw (texts_have_none (ask_keys f.ask), cell_has_none
 pub finding_has_none : (kind : LineKind) (f : Found) (since : ℕ) (at : Place) → has_float (finding_at kind f since at) ≡ false
 finding_has_none kind f since (place.Head feed slot) = rw (facts_have_none f.facts) refl
 finding_has_none kind f since (place.Entity key path) = rw (facts_have_none f.facts) refl
+
+pub closed_has_none : (rule : RuleId) (at : Place) → has_float (closed_data rule at) ≡ false
+closed_has_none rule (place.Head feed slot) = refl
+closed_has_none rule (place.Entity key path) = refl

@@ -19,6 +19,7 @@ use Rattle.rule_core.specs.declared.kind.Kind.TheVariants as kind
 use Rattle.rule_core.specs.declared.fact.Fact.{Fact}
 use Rattle.rule_core.specs.declared.place.Place.{Place}
 use Rattle.rule_core.specs.declared.place.Place.TheVariants as place
+use Rattle.rule_core.specs.declared.rule.RuleId.{RuleId}
 use Rattle.rule_core.specs.Found.{Found}
 use Rattle.rule_core.specs.Rules.{rule_name, level}
 use Rattle.rt_report.specs.declared.finding.LineKind.{LineKind}
@@ -187,3 +188,25 @@ finding_at kind f since (place.Entity key path) =
 
 abbrev pub finding_data : LineKind → Found → ℕ → Data
 finding_data kind f since = finding_at kind f since f.place
+
+-- ---- a rule that stands no more at a place
+abbrev pub head_closed : ℕ → List ℕ → List ℕ → Data
+head_closed feed path rule = object
+    (member (codes "feed") (count feed)
+    (member (codes "line") (string (codes "closed"))
+    (member (codes "path") (string path)
+    (member (codes "rule") (string rule) no_members))))
+
+abbrev pub entity_closed : ℕ → List ℕ → ℕ → List ℕ → List ℕ → Data
+entity_closed feed id occurrence path rule = object
+    (member (codes "feed") (count feed)
+    (member (codes "id") (string id)
+    (member (codes "line") (string (codes "closed"))
+    (member (codes "occurrence") (count occurrence)
+    (member (codes "path") (string path)
+    (member (codes "rule") (string rule) no_members))))))
+
+-- a place on a header has no id and no occurrence
+abbrev pub closed_data : RuleId → Place → Data
+closed_data rule (place.Head feed slot) = head_closed feed (path_text slot 0) (rule_name rule)
+closed_data rule (place.Entity key path) = entity_closed key.feed key.id key.occurrence (path_text path.slot path.index) (rule_name rule)

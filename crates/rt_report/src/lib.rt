@@ -5,9 +5,11 @@
 #![tactic(auto)]
 
 mod asked;
+mod closed;
 mod finding;
 mod line;
 mod snapshot;
 
+pub use closed::closed_line;
 pub use finding::{LineKind, finding_line};
 pub use snapshot::{accepted_line, refused_line};

@@ -1,13 +1,15 @@
 use Rattle.std.proofs.Common.{refl, ◌∷◌, []}
-use Rattle.rt_command.specs.Report.{shown_report, files_report, encode_report}
-use Rattle.rt_command.proofs.Carried.{carried_at, carried_name}
+use Rattle.rt_outside.specs.Store.{contents_told}
+use Rattle.rt_command.specs.Faults.{IsFollowed}
+use Rattle.rt_command.specs.Report.{shown_report, file_report, encode_report, follow_report}
+use Rattle.rt_command.proofs.Carried.{carried_at, carried_folder, carried_name}
 use Rattle.rt_command.proofs.run.carry_out.Goals as goal
 
-pub returns-in-Check : goal.returns-in-Check
-returns-in-Check g c = rw c.in-Check.is (carried_at _ _ c.unwrap_or-moment.result _ _ _ _ _ c.check.result c.as_ref.ensures.value c.unwrap_or-moment.ensures refl c.check.ensures)
+pub returns-in-Check-clause-carried : goal.returns-in-Check-clause-carried
+returns-in-Check-clause-carried g c = rw c.in-Check.is (carried_at _ _ c.unwrap_or-moment.result _ _ _ _ _ c.check.result c.as_ref-folder.ensures.value c.unwrap_or-moment.ensures refl c.check.ensures)
 
-pub returns-in-Show : goal.returns-in-Show
-returns-in-Show g c = rw c.in-Show.is (carried_name (λ name. files_report shown_report (name ∷ [])) _ _ _ _ c.report_file.result c.as_str.ensures c.report_file.ensures)
+pub returns-in-Show-clause-carried : goal.returns-in-Show-clause-carried
+returns-in-Show-clause-carried g c = rw c.in-Show.is (carried_name (file_report shown_report) _ _ _ _ c.report_file.result c.as_str-in-Show.ensures c.report_file.ensures)
 
-pub returns-in-Encode : goal.returns-in-Encode
-returns-in-Encode g c = rw c.in-Encode.is (carried_name encode_report _ _ _ _ c.encode.result c.as_str-in-Encode.ensures c.encode.ensures)
+pub returns-in-Encode-clause-carried : goal.returns-in-Encode-clause-carried
+returns-in-Encode-clause-carried g c = rw c.in-Encode.is (carried_name encode_report _ _ _ _ c.encode.result c.as_str-in-Encode.ensures c.encode.ensures)

@@ -1,7 +1,0 @@
-use Rattle.std.proofs.Common.{◌∙◌, sym}
-use Rattle.rt_command.proofs.Numbers.{parsed}
-use Rattle.rt_command.proofs.words.number_of.Goals as goal
-
-pub returns : goal.returns
-returns c =
-    c.ok.ensures.value ∙ parsed c.args.word.now c.parse.result (sym c.are_digits.ensures ∙ c.if-not-are_digits.false) c.if-word-gt20.false c.parse.ensures.value.0

@@ -1,0 +1,7 @@
+-- What was read of a snapshot that comes in pieces.
+use Rattle.std.specs.Prelude.{◌≡◌, ℕ, ◌<◌, ◌⊎◌, ◌×◌, List, ◌++◌, length}
+use Rattle.feed_values.specs.Accepted.{snapshot_limit}
+
+-- all that was left of the file; or a front of it that is more than a snapshot may be
+abbrev pub TellsPieces : List ℕ → List ℕ → Type 0
+TellsPieces rest pieces = (rest ≡ pieces) ⊎ ((more : List ℕ) × (rest ≡ pieces ++ more) × (snapshot_limit < length pieces))
