@@ -4,8 +4,12 @@ use Rattle.std.specs.List.{flat_map, list_any}
 use Rattle.std.proofs.Common.{sym, ap, ◌∙◌, append_assoc}
 use Rattle.std.proofs.lemmas.Grind.{flat_map-append}
 use Rattle.rule_core.specs.Found.{Found}
+use Rattle.follow_engine.specs.Deltas.{all_opened, all_closed}
+use Rattle.follow_engine.specs.declared.delta.Closed.{Closed}
+use Rattle.rt_report.specs.declared.finding.LineKind.TheVariants as line
+use Rattle.follow_engine.specs.declared.delta.Opened.{Opened}
 use Rattle.rt_command.specs.declared.lines.Lines.{Lines}
-use Rattle.rt_command.specs.Findings.{AddsLines, finding_text, has_error, is_error}
+use Rattle.rt_command.specs.Findings.{Adds, AddsLines, standing_text, finding_text, closed_text, has_error, is_error, any_error}
 
 or_apart : (a b c : Bool) → ((a || b) || c) ≡ (a || (b || c))
 or_apart true b c = refl
@@ -30,3 +34,20 @@ text_left a b xs ys all h e =
 pub error_left : (a b : Lines) (xs ys : List Found) (all : Bool) → AddsLines a b xs → (a.error || has_error (xs ++ ys)) ≡ all → (b.error || has_error ys) ≡ all
 error_left a b xs ys all h e =
     ap (λ x. x || has_error ys) h.error ∙ or_apart a.error (has_error xs) (has_error ys) ∙ ap (λ x. a.error || x) (sym (error_append xs ys)) ∙ e
+
+-- whether something that opened is of an error
+pub any_opened : (xs : List Opened) → list_any (λ x. is_error x.finding.rule) xs ≡ any_error (all_opened xs)
+any_opened [] = refl
+any_opened (x ∷ xs) = ap (λ b. is_error x.finding.rule || b) (any_opened xs)
+
+-- what opened and what closed
+pub adds_changes : (old new : Lines) (mid : List ℕ) (os opened : List Opened) (cs closed : List Closed) (error : Bool) → os ≡ opened → cs ≡ closed → mid ≡ old.text.items ++ flat_map (standing_text line.Opened) (all_opened os) →
+    new.text.items ≡ mid ++ flat_map closed_text (all_closed cs) → error ≡ list_any (λ x. is_error x.finding.rule) os → new.error ≡ (old.error || error) →
+    Adds old new (flat_map (standing_text line.Opened) (all_opened opened) ++ flat_map closed_text (all_closed closed)) (any_error (all_opened opened))
+adds_changes old new mid os opened cs closed error o c first second found is = record {
+  text_is = second ∙ ap (λ t. t ++ flat_map closed_text (all_closed cs)) first
+      ∙ append_assoc old.text.items (flat_map (standing_text line.Opened) (all_opened os)) (flat_map closed_text (all_closed cs))
+      ∙ ap (λ xs. old.text.items ++ (flat_map (standing_text line.Opened) (all_opened xs) ++ flat_map closed_text (all_closed cs))) o
+      ∙ ap (λ xs. old.text.items ++ (flat_map (standing_text line.Opened) (all_opened opened) ++ flat_map closed_text (all_closed xs))) c;
+  error_is = is ∙ ap (λ b. old.error || b) (found ∙ any_opened os ∙ ap (λ xs. any_error (all_opened xs)) o);
+}

@@ -81,6 +81,14 @@ module _ (report : Contents → Report) (reads : List ℕ → Type 0) (before af
       at_said write_fault_text answer.WriteFault says_write_fault (λ r. r) (λ e. absurd (cc e)) (λ _. write refl) (λ whole. inl whole) said
   carried_fault fault.Memory file is read write named said = carried_memory said
 
+  -- a fault that is no failed read was told
+  pub carried_other_fault : (why : Fault) (name : List ℕ) → (why ≡ fault.Read → ⊥) → (why ≡ fault.Write → Rose before.out.faults after.out.faults) →
+      SaysFault why name before.err after.err result → CarriesOut report reads before after result
+  carried_other_fault fault.Read name other write said = absurd (other refl)
+  carried_other_fault fault.Write name other write said =
+      at_said write_fault_text answer.WriteFault says_write_fault (λ r. r) (λ e. absurd (cc e)) (λ _. write refl) (λ whole. inl whole) said
+  carried_other_fault fault.Memory name other write said = carried_memory said
+
 -- the files and the error stream were used, and nothing was written to the output
 module _ (report : Contents → Report) (reads : List ℕ → Type 0) (files later : FilesState) (out eb ea : SinkState) where
   abbrev pub old : Outside

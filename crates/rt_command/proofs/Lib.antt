@@ -8,6 +8,7 @@ pub mod Refusals
 pub mod Told
 pub mod Carried
 pub mod Encodings
-pub mod Rows
+pub mod RowByRow
 pub mod OneFile
 pub mod Listed
+pub mod Checked

@@ -1,8 +1,9 @@
 -- The report of `check` on one file is that of its snapshot by itself.
-use Rattle.std.proofs.Common.{◌≡◌, ℕ, ◌<◌, Bool, true, false, ◌||◌, List, [], ◌∷◌, ◌++◌, map, length, length-map, refl, sym, ◌∙◌, ap, subst, arith, append-nil, Some, None, if◌then◌else◌, Result, Ok, Err}
+use Rattle.std.proofs.Common.{◌≡◌, ℕ, ◌<◌, Bool, true, false, ◌||◌, List, [], ◌∷◌, ◌++◌, map, length, refl, sym, ◌∙◌, ap, subst, arith, append-nil, Some, None, if◌then◌else◌, Result, Ok, Err}
 use Rattle.std.specs.declared.option.Option.{Option}
 use Rattle.std.specs.FinMap.{get}
 use Rattle.std.specs.List.{flat_map, list_any}
+use Rattle.std.proofs.lemmas.List.{length-map}
 use Rattle.rt_outside.specs.Store.{Contents}
 use Rattle.feed_values.specs.Snapshot.{entities_of, entity_of, entity_payloads}
 use Rattle.feed_values.proofs.SnapshotFields.{snapshot_is_its_fields}
@@ -28,7 +29,7 @@ use Rattle.rt_command.specs.Findings.{standing_text, finding_text, is_error, has
 use Rattle.rt_command.specs.Judged.{accepted_report, accepted_text as first_text, snapshot_findings}
 use Rattle.rt_command.specs.Report.{Report, checked, file_report, files_report, found, judged_report, refused_report, snapshot_report}
 use Rattle.rt_command.specs.Rows.{Outcome, accepted_text, all_rows, bytes_in, file_rows, row_outcome, taken, unless_faulty}
-use Rattle.rt_command.proofs.Rows.{then-none}
+use Rattle.rt_command.proofs.RowByRow.{then-none}
 
 -- ---- reports that are one
 same_report : (r s : Report) → r.text ≡ s.text → r.errors ≡ s.errors → r.status ≡ s.status → r ≡ s

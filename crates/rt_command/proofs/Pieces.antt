@@ -1,7 +1,8 @@
 -- The bytes of a file, by the pieces that were read of it.
-use Rattle.std.proofs.Common.{◌≡◌, ℕ, ◌<◌, ◌+◌, ◌⊎◌, inl, inr, List, [], ◌++◌, length, drop, nat_lt, true, refl, sym, ap, ◌∙◌, subst, arith, append-nil, length-append, unwrap_or, IsSome, Some, None, IfSome, Result, Ok, Err}
+use Rattle.std.proofs.Common.{◌≡◌, ℕ, ◌<◌, ◌+◌, ◌⊎◌, inl, inr, List, [], ◌++◌, length, drop, nat_lt, true, refl, sym, ap, ◌∙◌, subst, arith, append-nil, length-append, unwrap_or, IsSome, Some, None, IfSome, IfOk, Result, Ok, Err}
 use Rattle.std.specs.declared.option.Option.{Option}
 use Rattle.std.specs.Option.{option_map}
+use Rattle.std.proofs.lemmas.Result.{IfOk-weaker}
 use Rattle.std.specs.FinMap.{get}
 use Rattle.std.specs.Io.KnownBytes.{prepend_known}
 use Rattle.std.proofs.lemmas.Bool.Decides.{nat_tests}
@@ -52,15 +53,16 @@ pieces_are rest pieces (inr full) =
     ap (λ bytes. unless_faulty bytes (refusal bytes)) full.1 ∙ too_large (pieces ++ full.0) (longer pieces full.0 full.2) ∙ sym (too_large pieces full.2)
 
 got_pieces : (got : Option (List ℕ)) (pieces : List ℕ) → IsSome got → TellsPieces (drop 0 (unwrap_or got [])) pieces → bytes_in got ≡ unless_faulty pieces (refusal pieces)
-got_pieces None pieces there tells = absurd there
+got_pieces None pieces there tells = absurd (cc there)
 got_pieces (Some bytes) pieces there tells = pieces_are bytes pieces tells
 
 -- a file that was opened, and read by these pieces
-pub opened_pieces : (told : Option Store) (name pieces : List ℕ) (found : Result (List ℕ) Refusal) → IfSome told (λ store. TellsHeld store.contents name opening.Opened) →
-    IfSome (option_map (λ store. opened store name opening.Opened) told) (λ store. TellsPieces (left store) pieces) → unless_faulty pieces (refusal pieces) ≡ found →
-    IfSome (contents_told told) (λ held. bytes_in (get held name) ≡ found)
-opened_pieces None name pieces found there tells is = tt
-opened_pieces (Some store) name pieces found there tells is = got_pieces (get store.contents name) pieces there tells ∙ is
+pub opened_found : {R E : Type 0} (told : Option Store) (name pieces : List ℕ) (result : Result R E) (value : R → Result (List ℕ) Refusal) → IfSome told (λ store. TellsHeld store.contents name opening.Opened) →
+    IfSome (option_map (λ store. opened store name opening.Opened) told) (λ store. TellsPieces (left store) pieces) → IfOk result (λ found. unless_faulty pieces (refusal pieces) ≡ value found) →
+    IfSome (contents_told told) (λ held. IfOk result (λ found. bytes_in (get held name) ≡ value found))
+opened_found None name pieces result value there tells is = tt
+opened_found (Some store) name pieces result value there tells is =
+    IfOk-weaker result _ _ (λ found h. got_pieces (get store.contents name) pieces there tells ∙ h) is
 
 -- one that is absent
 pub absent_pieces : (told : Option Store) (name : List ℕ) → IfSome told (λ store. TellsHeld store.contents name opening.Absent) → IfSome (contents_told told) (λ held. bytes_in (get held name) ≡ bytes_in None)

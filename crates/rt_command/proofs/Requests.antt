@@ -1,7 +1,8 @@
 -- What a request names, and words behind options.
-use Rattle.std.proofs.Common.{◌≡◌, ℕ, ◌≤◌, ◌<◌, ◌-◌, get_or, ◌∙◌, List, [], ◌∷◌, Bool, true, false, ◌&&◌, nat_le, length, take, drop, map, String, string_bytes, codes, ap, refl, sym, subst, Some, None, option_map, is_none, if◌then◌else◌, arith}
+use Rattle.std.proofs.Common.{◌≡◌, ℕ, suc, ◌≤◌, ◌<◌, ◌-◌, get_or, ◌∙◌, List, [], ◌∷◌, Bool, true, false, ◌&&◌, nat_le, length, take, drop, map, String, string_bytes, codes, ap, refl, sym, subst, Some, None, option_map, is_none, if◌then◌else◌, arith}
 use Rattle.std.specs.declared.option.Option.{Option}
 use Rattle.std.specs.declared.alloc.Global.{Global}
+use Rattle.std.specs.List.{list_all}
 use Rattle.std.specs.Option.{option_and_then}
 use Rattle.std.proofs.lemmas.Bool.Decides.{nat_tests}
 use Rattle.std.proofs.lemmas.List.{take_all}
@@ -90,11 +91,11 @@ pub no_option_first : (name : Command) (options : Options) (words : List (String
 no_option_first name options [] word found two is path e = absurd (omega arith)
 no_option_first name options (x ∷ []) word found two is path e = absurd (omega arith)
 no_option_first name options (x ∷ y ∷ words) word found two is path e =
-    e ∙ sym (taken (is_path (string_bytes x)) (ap (λ w. is_path (string_bytes w)) (sym is) ∙ path))
+    e ∙ sym (taken (is_path (string_bytes x)) _ _ (ap (λ w. is_path (string_bytes w)) (sym is) ∙ path))
   where
-    taken : (b : Bool) → b ≡ true → {so other : Option Request} → (if b then so else other) ≡ so
-    taken true h = refl
-    taken false h = absurd (cc h)
+    taken : (b : Bool) (so other : Option Request) → b ≡ true → (if b then so else other) ≡ so
+    taken true so other h = refl
+    taken false so other h = absurd (cc h)
 
 -- an option and its value before other words
 pub next_option : (name : Command) (words : List (String Global)) (word value : String Global) (options : Options) (with : Option Options) (found : Option Request) → 2 ≤ length words →
@@ -106,11 +107,28 @@ next_option name (x ∷ y ∷ words) word value options with found two w v path 
     e ∙ ap (λ rest. option_and_then (λ more. options_of name more (map string_bytes rest)) with) (take_all (length (x ∷ y ∷ words) - 2) words (omega arith))
     ∙ ap (option_and_then (λ more. options_of name more (map string_bytes words)))
     (is ∙ ap (λ word. with_option options (string_bytes word) (string_bytes value)) w ∙ ap (λ word. with_option options (string_bytes x) (string_bytes word)) v)
-    ∙ sym (left (is_path (string_bytes x)) (ap (λ w. is_path (string_bytes w)) (sym w) ∙ path))
+    ∙ sym (left (is_path (string_bytes x)) _ _ (ap (λ w. is_path (string_bytes w)) (sym w) ∙ path))
   where
-    left : (b : Bool) → b ≡ false → {so other : Option Request} → (if b then so else other) ≡ other
-    left false h = refl
-    left true h = absurd (cc h)
+    left : (b : Bool) (so other : Option Request) → b ≡ false → (if b then so else other) ≡ other
+    left false so other h = refl
+    left true so other h = absurd (cc h)
+
+-- all of some words are paths where all of their texts are
+pub all_texts : (words : List (String Global)) → list_all (λ word. is_path (string_bytes word)) words ≡ list_all is_path (map string_bytes words)
+all_texts [] = refl
+all_texts (word ∷ words) = ap (λ b. is_path (string_bytes word) && b) (all_texts words)
+
+-- words of which there are 1 to 16
+pub files_are : (words : List (String Global)) → 1 ≤ length words → length words ≤ 16 → list_all (λ word. is_path (string_bytes word)) words ≡ are_files (map string_bytes words)
+files_are words some most =
+    all_texts words ∙ sym (at (length (map (string_bytes {Z = Global}) words)) _ (subst (λ n. 1 ≤ n) (sym (longs words)) some) (subst (λ n. n ≤ 16) (sym (longs words)) most))
+  where
+    at : (n : ℕ) (b : Bool) → 1 ≤ n → n ≤ 16 → (nat_le 1 n && nat_le n 16 && b) ≡ b
+    at n b l u = grind (arith, nat_tests)
+
+    longs : (words : List (String Global)) → length (map (string_bytes {Z = Global}) words) ≡ length words
+    longs [] = refl
+    longs (word ∷ words) = ap suc (longs words)
 
 -- the one name of a list
 pub one_name : (names list : List (List ℕ)) (first name : List ℕ) → length names ≡ 1 → list ≡ names → first ≡ get_or list 0 first → name ≡ first → name ∷ [] ≡ names

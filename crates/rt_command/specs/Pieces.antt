@@ -1,5 +1,5 @@
 -- What was read of a snapshot that comes in pieces.
-use Rattle.std.specs.Prelude.{◌≡◌, ℕ, ◌<◌, ◌⊎◌, ◌×◌, List, ◌++◌, length}
+use Rattle.std.specs.Prelude.{◌≡◌, ℕ, ◌<◌, ◌⊎◌, List, ◌++◌, length}
 use Rattle.feed_values.specs.Accepted.{snapshot_limit}
 
 -- all that was left of the file; or a front of it that is more than a snapshot may be

@@ -1,5 +1,5 @@
 //! The lines of findings, one after the other.
-ghost use Rattle.std.specs.Prelude.{◌≡◌, ◌++◌, OnOk};
+ghost use Rattle.std.specs.Prelude.{◌≡◌, ◌++◌, ◌||◌, OnOk};
 ghost use Rattle.std.specs.List.{flat_map, list_any};
 ghost use Rattle.rule_core.specs.Rules.{level};
 ghost use Rattle.follow_engine.specs.Deltas.{all_opened, all_closed};
@@ -37,7 +37,7 @@ impl Lines {
         let opened = delta.opened.as_slice();
         push_opened(alloc, &mut self.text, opened)?;
         push_closed(alloc, &mut self.text, delta.closed.as_slice())?;
-        self.error = self.error || opens_error(opened);
+        self.error = either(self.error, opens_error(opened));
         Ok(())
     }
 }
@@ -64,7 +64,7 @@ fn push_closed(alloc: Global, text: &mut Vec<u8>, closed: &[Closed]) -> Result<(
 
 /// Whether a finding that opened is of an error.
 fn opens_error(opened: &[Opened]) -> bool
-    ensures { result ≡ any_error (all_opened opened.now) }
+    ensures { result ≡ list_any (λ x. is_error x.finding.rule) opened.now }
 {
     opened.iter().any(|open| is_error(open.finding.rule()))
 }
@@ -79,8 +79,14 @@ fn push_lines(alloc: Global, text: &mut Vec<u8>, findings: &[Finding]) -> Result
     Ok(())
 }
 
+pub fn either(a: bool, b: bool) -> bool
+    ensures { result ≡ (a || b) }
+{
+    a || b
+}
+
 /// Whether a rule is of level E or X.
-fn is_error(rule: RuleId) -> bool
+pub fn is_error(rule: RuleId) -> bool
     ensures { result ≡ is_error rule }
 {
     rule.level() == "E" || rule.level() == "X"

@@ -1,5 +1,5 @@
 //! Snapshots that are taken one after the other.
-ghost use Rattle.std.specs.Prelude.{◌≡◌, ◌<◌, ◌||◌, Some, IfSome, IfOk, IfErr, length, slice_get};
+ghost use Rattle.std.specs.Prelude.{◌≡◌, ◌<◌, Some, IfSome, IfOk, IfErr, length, slice_get};
 ghost use Rattle.rt_outside.specs.Causes.{Rose};
 ghost use Rattle.rt_outside.specs.Sink.{AppendsPrefix};
 ghost use Rattle.rt_outside.specs.Store.{contents_told};
@@ -10,6 +10,7 @@ ghost use Rattle.rt_command.specs.Followed.{IsDone, IsRowFault};
 ghost use Rattle.rt_command.specs.Rows.{all_rows};
 
 use crate::fault::Fault;
+use crate::lines::either;
 use crate::row::judge_row;
 use crate::say::say_fault;
 use crate::status::Status;
@@ -65,20 +66,17 @@ pub fn follow_rows<F: Files, S: Sink, D: Ledger, T: Ledger>(
             Ok(end) => end,
             Err(fault) => return Err(RowFault { row: index, fault }),
         };
-        if let Err(failed) = put_all(out, &end.lines.text) {
-            let fault = Fault::from(failed);
-            return Err(RowFault { row: index, fault });
+        match put_all(out, &end.lines.text) {
+            Ok(()) => {}
+            Err(failed) => {
+                let fault = Fault::from(failed);
+                return Err(RowFault { row: index, fault });
+            }
         }
         engine = end.engine;
         error = either(error, end.lines.error);
     }
     Ok(RowsEnd { engine, error })
-}
-
-fn either(a: bool, b: bool) -> bool
-    ensures { result ≡ (a || b) }
-{
-    a || b
 }
 
 /// Tells a fault at one of these rows, and answers it. A read fault is that of the row's file.

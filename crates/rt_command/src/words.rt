@@ -131,11 +131,14 @@ fn follow_of(options: Options, files: &[String]) -> Option<Request>
 fn are_files(words: &[String]) -> bool
     ensures { result ≡ are_files (map string_bytes words.now) }
 {
-    !words.is_empty() && words.len() <= FEEDS && are_paths(words)
+    if words.is_empty() || words.len() > FEEDS {
+        return false;
+    }
+    are_paths(words)
 }
 
 fn are_paths(words: &[String]) -> bool
-    ensures { result ≡ list_all values.is_path (map string_bytes words.now) }
+    ensures { result ≡ list_all (λ word. values.is_path (string_bytes word)) words.now }
 {
     words.iter().all(|word| is_path(word.as_str()))
 }

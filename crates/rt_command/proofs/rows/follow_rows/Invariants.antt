@@ -2,7 +2,7 @@ use Rattle.std.proofs.Common.{◌≡◌, ◌≤◌}
 use Rattle.rt_outside.specs.Store.{contents_told}
 use Rattle.rule_core.specs.Answered.{tables_of}
 use Rattle.rt_command.specs.Followed.{StandsWithin}
-use Rattle.rt_command.proofs.Rows.{Done}
+use Rattle.rt_command.proofs.RowByRow.{Done}
 use Rattle.rt_command.proofs.rows.follow_rows.Given as goal
 
 -- the engine stands for a history that is no longer than the rows so far, whose lines are what was written

@@ -14,13 +14,16 @@ use Rattle.feed_list.specs.declared.row.ListRow.{ListRow}
 use Rattle.timetable.specs.Timetables.{Tables}
 use Rattle.rule_core.specs.History.{Snapshot}
 use Rattle.rule_core.specs.Changed.{with}
-use Rattle.engine_laws.specs.Standings.{StandsFor}
+use Rattle.engine_laws.specs.Delta.{Delta, IsDelta}
+use Rattle.engine_laws.proofs.Computed.{delta_is_computed}
 use Rattle.follow_engine.specs.declared.engine.Engine.{Engine}
+use Rattle.follow_engine.specs.Engines.{engine_data}
+use Rattle.rt_command.specs.declared.lines.Lines.{Lines}
 use Rattle.rt_command.specs.declared.row.RowEnd.{RowEnd}
 use Rattle.rt_command.specs.declared.telling.Telling.{Telling}
 use Rattle.rt_command.specs.Faults.{paths_of}
-use Rattle.rt_command.specs.Followed.{Stands, IsOutcome, IsRowEnd, IsDone, StandsWithin}
-use Rattle.rt_command.specs.Rows.{Outcome, then, no_rows, bytes_in, row_outcome, rows_from}
+use Rattle.rt_command.specs.Followed.{Stands, AreTold, IsOutcome, Judges, IsRowEnd, IsDone, StandsWithin}
+use Rattle.rt_command.specs.Rows.{Outcome, then, no_rows, accepted_text, told_text, told_error, taken, bytes_in, row_outcome, rows_from}
 
 -- ---- outcomes one after the other
 or-assoc : (a b c : Bool) → ((a || b) || c) ≡ (a || (b || c))
@@ -85,6 +88,20 @@ module _ (telling : Telling) (t : Option Tables) (held : Contents) where
 
   part_text : (before now : Option (List ℕ)) (h : List Snapshot) (rows : List ListRow) (i : ℕ) → AppendsPrefix before now (from h 0 (take i rows)).text → AppendsPrefix before now (from h 0 rows).text
   part_text before now h rows i p = subst (AppendsPrefix before now) (sym (front_is h rows i)) (AppendsPrefix-first before now (from h 0 (take i rows)).text _ p)
+
+-- ---- an accepted snapshot
+-- what it changed, and the lines on that, are its outcome
+pub accepted_judged : (telling : Telling) (number : ℕ) (row : ListRow) (bytes : List ℕ) (engine later : Engine) (d : Delta) (lines : Lines) →
+    ((t : Option Tables) (h : List Snapshot) → Stands t engine h → Stands t later (with h (taken row bytes))) →
+    ((t : Option Tables) (h : List Snapshot) → Stands t engine h → IsDelta t h (taken row bytes) (engine_data later).list d) →
+    AreTold telling number row d lines → Judges telling number row (Ok bytes) engine (record { engine = later; lines = lines })
+accepted_judged telling number row bytes engine later d lines stands changes told t h st =
+    let is = delta_is_computed t h (taken row bytes) (engine_data later).list d (stands t h st).list_is (changes t h st) in
+    record {
+      stands_for = stands t h st;
+      text_is = told.text_is ∙ ap (λ x. accepted_text number row x ++ told_text telling x) is;
+      error_is = told.error_is ∙ ap (told_error telling) is;
+    }
 
 -- ---- while rows are followed
 module _ (told : Option Contents) (telling : Telling) (t : Option Tables) (before : Option (List ℕ)) (rows : List ListRow) where
