@@ -6,5 +6,9 @@ pub mod Requests
 pub mod Refusals
 pub mod Told
 pub mod Carried
+pub mod Texts
+pub mod Chosen
+pub mod Tabled
+pub mod Predicting
 pub mod Numbers
 pub mod Encodings

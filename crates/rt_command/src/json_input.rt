@@ -112,8 +112,8 @@ fn input_text(alloc: Global, name: &str, fault: &InputFault) -> Result<String, A
     }
 }
 
-// The text of what is wrong with a file.
-fn refused_text(alloc: Global, name: &str, why: &str) -> Result<String, AllocError>
+/// The text of what is wrong with a file.
+pub fn refused_text(alloc: Global, name: &str, why: &str) -> Result<String, AllocError>
     ensures { IfOk result (λ text. string_bytes text ≡ refused_text name.now why.now) }
 {
     format!(in alloc; "refused: {name}: {why}\n")

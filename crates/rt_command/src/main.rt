@@ -31,6 +31,7 @@ mod json_input;
 mod judge;
 mod lines;
 mod options;
+mod predict;
 mod refusal;
 mod report_file;
 mod request;
@@ -44,6 +45,9 @@ mod tests;
 mod timetable_tests;
 mod wanted;
 mod words;
+mod zone_input;
+mod zone_input_fault;
+mod zone_word;
 
 use rt_outside::{RealFiles, RealSink, Steps};
 use run::run;
