@@ -32,6 +32,8 @@ mod judge;
 mod lines;
 mod options;
 mod predict;
+#[cfg(test)]
+mod predict_tests;
 mod refusal;
 mod report_file;
 mod request;
