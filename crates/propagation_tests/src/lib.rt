@@ -9,3 +9,5 @@ mod lines;
 mod made;
 #[cfg(test)]
 mod many;
+#[cfg(test)]
+mod tables;

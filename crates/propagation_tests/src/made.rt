@@ -67,7 +67,7 @@ pub fn update(alloc: Global, told: Told) -> Result<StopTimeUpdate, AllocError> {
     })
 }
 
-fn updates(alloc: Global, told: &[Told]) -> Result<Items<StopTimeUpdate>, AllocError> {
+pub fn updates(alloc: Global, told: &[Told]) -> Result<Items<StopTimeUpdate>, AllocError> {
     let mut items = Items::new(alloc);
     for one in told {
         items.push(update(alloc, *one)?)?;

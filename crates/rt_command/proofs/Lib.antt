@@ -7,6 +7,10 @@ pub mod Requests
 pub mod Refusals
 pub mod Told
 pub mod Carried
+pub mod Texts
+pub mod Chosen
+pub mod Tabled
+pub mod Predicting
 pub mod Encodings
 pub mod RowByRow
 pub mod OneFile

@@ -8,7 +8,7 @@ use Rattle.rt_command.specs.declared.request.Request.{Request}
 use Rattle.rt_command.specs.declared.status.Status.{Status}
 use Rattle.rt_command.specs.declared.status.Status.TheVariants as answer
 use Rattle.rt_command.specs.Report.{Report, report_of, asked_report, usage_text}
-use Rattle.rt_command.specs.Faults.{TellsFault, IsErrorText, says_usage, says_memory, says_write_fault, says_read_fault, says_refused, Says, IsReported}
+use Rattle.rt_command.specs.Faults.{TellsFault, IsErrorText, says_usage, says_memory, says_write_fault, says_read_fault, says_refused, says_bad_zone, Says, IsReported}
 
 -- a text that may stand there was said
 pub tells : (reads : List ℕ → Type 0) (last : Option (List ℕ)) (before after : SinkState) (text : List ℕ) (meant result : Status) →
@@ -40,6 +40,7 @@ error_text_more reads more text reading says_memory = says_memory
 error_text_more reads more text reading says_write_fault = says_write_fault
 error_text_more reads more text reading (says_read_fault name is) = says_read_fault name (reading name is)
 error_text_more reads more text reading (says_refused name why is) = says_refused name why (reading name is)
+error_text_more reads more text reading says_bad_zone = says_bad_zone
 
 -- and what a fault tells still does
 pub tells_more : (reads more : List ℕ → Type 0) (last : Option (List ℕ)) (before after : SinkState) (result : Status) →

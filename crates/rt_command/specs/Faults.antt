@@ -21,6 +21,7 @@ use Rattle.rt_command.specs.declared.status.Status.TheVariants as answer
 use Rattle.rt_command.specs.Inputs.{refused_text, refusal_text}
 use Rattle.rt_command.specs.JsonInputs.{input_text}
 use Rattle.rt_command.specs.Report.{usage_text}
+use Rattle.rt_command.specs.Zones.{bad_zone_text}
 use Rattle.timetable.specs.Folders.{path}
 use Rattle.timetable.specs.declared.fault.LoadFault.{LoadFault}
 use Rattle.timetable.specs.declared.fault.LoadFault.TheVariants as load
@@ -80,6 +81,7 @@ pub data IsErrorText (reads : List ℕ → Type 0) : List ℕ → Type 0 where
   says_write_fault : IsErrorText reads write_fault_text
   says_read_fault : (name : List ℕ) → reads name → IsErrorText reads (read_fault_text name)
   says_refused : (name why : List ℕ) → reads name → IsErrorText reads (refused_text name why)
+  says_bad_zone : IsErrorText reads bad_zone_text
 
 -- What was appended to the error stream with an answer that tells a fault. A read fault names a file that is read,
 -- and the one last asked for, where that is told. Where the error stream failed too, a prefix of one text stands there.

@@ -12,3 +12,5 @@ pub mod Judged
 pub mod Faults
 pub mod Outside
 pub mod Carried
+pub mod Zones
+pub mod Predicted

@@ -37,6 +37,9 @@ mod judge;
 mod lines;
 mod list_fault;
 mod options;
+mod predict;
+#[cfg(test)]
+mod predict_tests;
 mod refusal;
 mod report_file;
 mod request;
@@ -53,6 +56,9 @@ mod tests;
 mod timetable_tests;
 mod wanted;
 mod words;
+mod zone_input;
+mod zone_input_fault;
+mod zone_word;
 
 use rt_outside::{RealFiles, RealSink, Steps};
 use run::run;

@@ -1,2 +1,4 @@
 pub mod Ranges
 pub mod Floats
+pub mod DateTexts
+pub mod RowTexts

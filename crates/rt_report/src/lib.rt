@@ -1,15 +1,18 @@
-//! The lines of a report: JSON objects as compact text, each with a line feed.
+//! The lines of a report: JSON objects as compact text, each with a line feed. And the rows of the table of stop events, as CSV.
 //!
 //! `specs/Lines.antt` says what each line holds; `compact_text` of serde_json's specs says which bytes that is. Keys stand in
-//! byte order.
+//! byte order. `specs/Predictions.antt` says which fields each row has; `row_text` of csv's specs says which bytes that is.
 #![tactic(auto)]
 
 mod asked;
 mod closed;
+mod date_text;
 mod finding;
 mod line;
+mod prediction;
 mod snapshot;
 
 pub use closed::closed_line;
 pub use finding::{LineKind, finding_line};
+pub use prediction::{prediction_head, prediction_rows};
 pub use snapshot::{accepted_line, refused_line};
