@@ -16,3 +16,4 @@ pub mod Sizes
 pub mod Pairing
 pub mod Places
 pub mod Proved
+pub mod Computed

@@ -71,7 +71,7 @@ rows_stay g h test none = in_rows.same_filters (rows g) (rows h) (in_rows.rows_r
 pub rows_agree : RowsAgree
 rows_agree = in_rows.rows_agree
 
-no_findings : (t : Option Tables) (n : ℕ) → below (λ f. feed_findings t [] f None) n ≡ []
+pub no_findings : (t : Option Tables) (n : ℕ) → below (λ f. feed_findings t [] f None) n ≡ []
 no_findings t zero = refl
 no_findings t (suc n) = ap (λ xs. xs ++ []) (no_findings t n)
 

@@ -20,14 +20,14 @@ either_way (suc n) zero = inr (omega arith)
 either_way (suc n) (suc r) = elim (either_way n r) [ inl h ↦ inl (omega arith) | inr h ↦ inr (omega arith) ]
 
 -- ---- one more
-since_stays : (a b : ℕ → Bool) (n s : ℕ) → ((m : ℕ) → m ≤ n → b m ≡ a m) → b (n + 1) ≡ true → IsSince a n s → IsSince b (n + 1) s
+pub since_stays : (a b : ℕ → Bool) (n s : ℕ) → ((m : ℕ) → m ≤ n → b m ≡ a m) → b (n + 1) ≡ true → IsSince a n s → IsSince b (n + 1) s
 since_stays a b n s same here old = record {
   within = omega (arith, old.within);
   each = λ m l u. elim (eq-or-lt_of_le u) [ inl e ↦ subst (λ k. b k ≡ true) (sym e) here | inr lt ↦ let le : m ≤ n = omega arith in same m le ∙ old.each m l le ];
   least = λ r f. old.least r (λ m l u. sym (same m u) ∙ f m l (omega arith));
 }
 
-since_starts : (b : ℕ → Bool) (n : ℕ) → b n ≡ false → b (n + 1) ≡ true → IsSince b (n + 1) n
+pub since_starts : (b : ℕ → Bool) (n : ℕ) → b n ≡ false → b (n + 1) ≡ true → IsSince b (n + 1) n
 since_starts b n not here = record {
   within = omega arith;
   each = λ m l u. subst (λ k. b k ≡ true) (only n m l u) here;

@@ -50,7 +50,7 @@ count-none : {A : Type 0} (p : A → Bool) (xs : List A) → Each (λ x. p x ≡
 count-none p [] h = refl
 count-none p (x ∷ xs) h = ap (λ b. cond b 1 0 + count_of p xs) h.0 ∙ ap (λ n. 0 + n) (count-none p xs h.1)
 
-each_map : {A : Type 0} (P Q : A → Type 0) → ((x : A) → P x → Q x) → (xs : List A) → Each P xs → Each Q xs
+pub each_map : {A : Type 0} (P Q : A → Type 0) → ((x : A) → P x → Q x) → (xs : List A) → Each P xs → Each Q xs
 each_map P Q w [] h = tt
 each_map P Q w (x ∷ xs) h = (w x h.0, each_map P Q w xs h.1)
 
@@ -91,7 +91,7 @@ module _ (g : ℕ) (test : Keyed → Bool) (inner : Keyed → Bool) (there : (e 
       less : (n g : ℕ) → g < suc n → (n == g) ≡ false → g < n
       less n g l e = grind (arith, nat_tests)
 
-entities_at : (h : List Snapshot) (f : ℕ) → Each (λ e. e.0.feed ≡ f) (entities h f)
+pub entities_at : (h : List Snapshot) (f : ℕ) → Each (λ e. e.0.feed ≡ f) (entities h f)
 entities_at h f = go (now h f) (last_now h f)
   where
     go : (n : Option Snapshot) → IsLastOf f n → Each (λ e. e.0.feed ≡ f) (entities_of_snapshot n)

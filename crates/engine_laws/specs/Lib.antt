@@ -6,4 +6,5 @@ pub mod Groups
 pub mod Seats
 pub mod Rows
 pub mod Walk
+pub mod Computed
 pub mod Laws

@@ -1,5 +1,6 @@
 //! Laws of the definitions. A function stands for its contract: it does nothing, and its `ensures` is proved for every
 //! timetable and every history.
+ghost use Rattle.engine_laws.specs.Computed.{DeltaIsComputed, FirstIsNew, ListIsComputed};
 ghost use Rattle.engine_laws.specs.Groups.{GroupsAre};
 ghost use Rattle.engine_laws.specs.Walk.{WalkCloses, WalkOpens, WalkRenews};
 ghost use Rattle.engine_laws.specs.Laws.{PairingStays, DataAreJoined, FindingsRise, FindingsAreParts, GroupsFind, HeadsFind, HeadersStay, NoneIsLost, SinceGoesOn, SinceStarts, ListGoesOn, PartsRenew, PartsOpen, PartsClose, RowsRise, RowsStay, RowsAgree, NothingStands, NextIsOwn, NextStands, NextChanges};
@@ -146,4 +147,21 @@ pub fn next_stands()
 /// And its delta is what the snapshot opened and closed, and how many entities it concerned.
 pub fn next_changes()
     ensures { NextChanges }
+{}
+
+/// The computed list of a history is the one list that has its findings, each with the number since when its rule stands.
+#[tactic(auto, using(crate::proofs::Computed::list_is_computed))]
+pub fn list_is_computed()
+    ensures { ListIsComputed }
+{}
+
+/// And the computed delta is the one thing that a snapshot changes.
+pub fn delta_is_computed()
+    ensures { DeltaIsComputed }
+{}
+
+/// All entities of the first snapshot of a history are tested, paired and bounded.
+#[tactic(auto, using(crate::proofs::Computed::first_is_new))]
+pub fn first_is_new()
+    ensures { FirstIsNew }
 {}
