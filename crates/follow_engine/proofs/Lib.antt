@@ -16,3 +16,4 @@ pub mod SeatValues
 pub mod IdsChanged
 pub mod OneRoom
 pub mod HasArrived
+pub mod Flat

@@ -1,6 +1,7 @@
 pub mod Deltas
 pub mod Parts
 pub mod Walked
+pub mod Left
 pub mod Ids
 pub mod Changes
 pub mod GivesIds

@@ -10,6 +10,7 @@ ghost use Rattle.follow_engine.specs.Deltas.{delta_value};
 
 use crate::delta::Delta;
 use crate::feeds::Feeds;
+use crate::findings::FindingsIter;
 use crate::following::{Followed, follow};
 use crate::taken::Taken;
 use feed_stream::Kept;
@@ -94,5 +95,13 @@ impl Engine {
         ensures { result ≡ (engine_data self.now).applied }
     {
         self.applied
+    }
+
+    /// The findings in their order, each with the number of the snapshot since which its rule stands at its place. It takes no
+    /// memory.
+    pub fn findings(&self) -> FindingsIter<'_>
+        ensures { result ≡ (engine_data self.now).list }
+    {
+        FindingsIter::new(&self.feeds.rooms)
     }
 }

@@ -3,7 +3,8 @@
 //! `engine` puts a snapshot at the end of the history. `taken` holds a snapshot decoded, `seating` its entities under their keys.
 //! `arriving` puts a snapshot in the place of the one before it, and tells by `changes` and `kinds` what became of pairing rows.
 //! `rows` gives the pairing rows of all feeds, `renewing` judges a header and entities anew, `walking` compares what was found
-//! with what is, `counting` counts entities, `rooms` does it feed by feed, and `following` all of it.
+//! with what is, `counting` counts entities, `rooms` does it feed by feed, and `following` all of it. `findings` hands out what is
+//! held.
 #![tactic(auto)]
 
 mod arrival;
@@ -13,6 +14,7 @@ mod counting;
 mod delta;
 mod engine;
 mod feeds;
+mod findings;
 mod following;
 mod ids;
 mod kinds;
@@ -31,3 +33,4 @@ mod walking;
 
 pub use delta::{Closed, Delta, Opened};
 pub use engine::Engine;
+pub use findings::FindingsIter;
