@@ -50,4 +50,5 @@ def main():
     print("%s: %d trips, %d stop times" % (folder, len(trips), len(times)))
 
 
-main()
+if __name__ == "__main__":
+    main()

@@ -1,0 +1,122 @@
+#!/usr/bin/env python3
+"""Seconds and peak memory of `rt_command follow`: follow.py [PROGRAM].
+
+Lists of snapshots of two feeds in turn, 30 seconds apart: trip updates of known trips with 20 updates each, and vehicles for three
+of ten of them, of which a few change each time; then 2,000 entities in each feed, of which 20 change; and last a trip update
+with 300,000 updates that each break a rule, twice in a row. The lists of 40 and 160 snapshots show what a history costs. The
+program is crates/rt_command/out/rt_command by default. Each row is the best of three runs, with how many findings opened and
+how many rules closed at places.
+"""
+import os, tempfile
+from measuring import best, program
+from snapshot import number, payload
+from timetable import ordinary, write
+
+BEGIN = 1700000000
+STOPS = 20
+
+
+def header(time):
+    return payload(1, payload(1, b"2.0") + number(2, 0) + number(3, time))
+
+
+def trip(i):
+    return payload(1, b"T%07d" % i)
+
+
+def trip_update(i, late):
+    """Entity i of a feed of trips, its last departure so many seconds late. Nothing says a relationship."""
+    begin = BEGIN + 600
+    stops = [payload(2, number(1, k + 1) + payload(2, number(2, begin + 60 * k))
+                     + payload(3, number(2, begin + 60 * k + (late if k == STOPS - 1 else 0)))
+                     + payload(4, b"S%05d" % ((i % 400) * 7 + k))) for k in range(STOPS)]
+    return payload(2, payload(1, b"trip%07d" % i) + payload(3, payload(1, trip(i)) + b"".join(stops) + number(4, BEGIN - 10)))
+
+
+def vehicle(i, late):
+    """Entity i of a feed of vehicles, its timestamp so many seconds late."""
+    position = payload(1, trip(i)) + number(5, BEGIN - 10 + late) + payload(8, payload(1, b"bus%05d" % i))
+    return payload(2, payload(1, b"vehicle%07d" % i) + payload(4, position))
+
+
+def small_update(i, late):
+    """A trip update with one update, whose delay grows."""
+    descriptor = payload(1, b"T%07d" % i) + number(4, 0)
+    stop = number(1, 1) + payload(2, number(1, i % 600 + late)) + number(5, 0)
+    update = payload(1, descriptor) + payload(2, stop) + payload(3, payload(1, b"v%d" % i)) + number(4, BEGIN)
+    return payload(2, payload(1, b"u%d" % i) + payload(3, update))
+
+
+def small_vehicle(i, late):
+    """Its vehicle, which goes on by a stop."""
+    position = payload(1, payload(1, b"T%07d" % i) + number(4, 0)) + number(3, 1 + late) + number(5, BEGIN) + payload(8, payload(1, b"v%d" % i))
+    return payload(2, payload(1, b"p%d" % i) + payload(4, position))
+
+
+def in_turn(folder, rows, feeds, changing):
+    """Writes a list of rows of two feeds in turn. A feed is how many entities it has and what makes one; so many of them change
+    each time."""
+    entities = [[make(i, 0) for i in range(count)] for count, make in feeds]
+    with open(os.path.join(folder, "list"), "w") as file:
+        for row in range(rows):
+            feed, turn = row % 2, row // 2
+            for i in range(changing if turn else 0):
+                entities[feed][i] = feeds[feed][1](i, turn)
+            put(folder, file, row, feed, BEGIN + 30 * turn, b"".join(entities[feed]))
+
+
+def put(folder, file, row, feed, moment, entities):
+    name = os.path.join(folder, "row%d" % row)
+    with open(name, "wb") as snapshot:
+        snapshot.write(header(moment) + entities)
+    file.write("%d,%d,%s\n" % (feed, moment, name))
+
+
+def one_entity(folder, updates):
+    """Writes a list of two rows, each a trip update with so many updates, of which none says a relationship."""
+    with open(os.path.join(folder, "list"), "w") as file:
+        for row in range(2):
+            stops = b"".join(payload(2, number(1, k + 1) + payload(2, number(1, row))) for k in range(updates))
+            put(folder, file, row, 0, BEGIN + 30 * row, payload(2, payload(1, b"t") + payload(3, payload(1, trip(0)) + stops)))
+
+
+def table(folder, count):
+    """A timetable of so many trips, with 20 stop times each."""
+    trips, times = ordinary(count * STOPS)
+    write(folder, "agency.txt", "agency_id", ["A1"])
+    write(folder, "stops.txt", "stop_id", ["S%05d" % k for k in range(3000)])
+    write(folder, "routes.txt", "route_id", ["R%d" % k for k in range(400)])
+    write(folder, "trips.txt", "route_id,service_id,trip_id,direction_id", trips)
+    write(folder, "stop_times.txt", "trip_id,arrival_time,departure_time,stop_id,stop_sequence", times)
+
+
+def measured(name, words, folder):
+    out = os.path.join(folder, "out")
+    seconds, size, status = best([program(), "follow", *words, "--list", os.path.join(folder, "list")], output=out)
+    with open(out, "rb") as file:
+        lines = file.read().splitlines()
+    opened, closed = (sum(b'"line":"%s"' % word in line for line in lines) for word in (b"opened", b"closed"))
+    print("%-52s %8.2f %9.0f %7d %9d %9d" % (name, seconds, size, status, opened, closed), flush=True)
+
+
+def main():
+    print("%-52s %8s %9s %7s %9s %9s" % ("", "seconds", "peak MiB", "status", "opened", "closed"))
+    for times in (1, 4):
+        with tempfile.TemporaryDirectory() as folder:
+            table(folder, 6000 * times)
+            for rows in (10, 40):
+                in_turn(folder, rows, [(3000 * times, trip_update), (900 * times, vehicle)], 100 * times)
+                measured("%d trips and %d vehicles, %d rows" % (3000 * times, 900 * times, rows), ["--timetable", folder], folder)
+    with tempfile.TemporaryDirectory() as folder:
+        table(folder, 2000)
+        for rows in (40, 160):
+            in_turn(folder, rows, [(2000, small_update), (2000, small_vehicle)], 20)
+            measured("2000 entities, %d rows" % rows, ["--timetable", folder], folder)
+    for updates in (75_000, 300_000):
+        with tempfile.TemporaryDirectory() as folder:
+            one_entity(folder, updates)
+            measured("one entity with %d updates, 2 rows" % updates, [], folder)
+
+
+if __name__ == "__main__":
+    main()
