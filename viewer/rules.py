@@ -30,7 +30,7 @@ def rules():
     for heading, (rule, place, facts, breaks, means) in table_rows((DOCS / "rules.md").read_text(), 5):
         if re.fullmatch("[EWX][0-9]{3}", rule):
             on = "header" if heading == "The header" else "entity"
-            yield {"rule": rule, "on": on, "place": place, "facts": facts, "breaks": breaks, "means": means}
+            yield {"rule": rule, "on": on, "breaks": breaks, "means": means}
 
 
 def reasons():
