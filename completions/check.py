@@ -1,0 +1,106 @@
+#!/usr/bin/env python3
+"""Tries the completions in bash, zsh and fish: the words before the cursor, and what each shell then offers.
+
+    python3 completions/check.py
+
+It works in a folder of its own with a folder `city` and the files `feed.pb` and `list.csv`.
+"""
+import os, pathlib, pty, select, shlex, subprocess, sys, tempfile, time
+
+HERE = pathlib.Path(__file__).resolve().parent
+FILES = ["city", "feed.pb", "list.csv"]
+# What is typed, and what is offered.
+CASES = [
+    ("", ["check", "encode", "follow", "predict", "show"]),
+    ("ch", ["check"]),
+    ("check --", ["--now", "--timetable"]),
+    ("check --now 5 --", ["--timetable"]),
+    ("check --now ", []),
+    ("check --timetable ", ["city"]),
+    ("check fe", ["feed.pb"]),
+    ("check feed.pb --", []),
+    ("check feed.pb li", ["list.csv"]),
+    ("follow --", ["--list", "--timetable"]),
+    ("follow --list l", ["list.csv"]),
+    ("predict --", ["--now", "--timetable", "--zone-file", "--zone-rule"]),
+    ("predict --zone-rule UTC0 --", ["--now", "--timetable"]),
+    ("predict --zone-file fe", ["feed.pb"]),
+    ("show --", []),
+    ("show fe", ["feed.pb"]),
+    ("encode li", ["list.csv"]),
+    ("wrong --", []),
+]
+
+
+def in_bash(typed, folder):
+    words = ["rt_command"] + typed.split(" ")
+    script = "source %s; COMP_WORDS=(%s); COMP_CWORD=%d; _rt_command; printf '%%s\\n' \"${COMPREPLY[@]}\"" % (
+        shlex.quote(str(HERE / "rt_command.bash")), " ".join(map(shlex.quote, words)), len(words) - 1)
+    return subprocess.run(["bash", "--norc", "-c", script], cwd=folder, capture_output=True, text=True).stdout.split("\n")
+
+
+def in_fish(typed, folder):
+    script = "source %s; complete -C %s" % (shlex.quote(str(HERE / "rt_command.fish")), shlex.quote("rt_command " + typed))
+    shown = subprocess.run(["fish", "-N", "-c", script], cwd=folder, capture_output=True, text=True).stdout
+    return [line.split("\t")[0].rstrip("/") for line in shown.split("\n")]
+
+
+class Zsh:
+    """A zsh of its own on a terminal, whose completion tells its matches to a file."""
+
+    def __init__(self, folder):
+        self.told = pathlib.Path(folder) / ".told"
+        self.child, self.terminal = pty.fork()
+        if self.child == 0:
+            os.chdir(folder)
+            os.execvpe("zsh", ["zsh", "-f", "-i"], {**os.environ, "TERM": "dumb", "PS1": "> "})
+        setup = r"""unsetopt zle_bracketed_paste; fpath=(%s $fpath); autoload -Uz compinit; compinit -u -D; zstyle ':completion:*' list-prompt ''; zmodload zsh/complist
+compadd() { local -a found words; [[ ${@[(I)-(O|A|D)]} -gt 0 ]] && { builtin compadd "$@"; return }; builtin compadd -O found "$@"; print -rl -- $found >> .told; builtin compadd "$@" }
+told() { zle list-choices; print -- end >> .told; zle kill-whole-line }
+zle -N told; bindkey '^B' told; print -- end >> .told
+""" % shlex.quote(str(HERE))
+        self.send(setup)
+
+    def send(self, text):
+        """What is told until the end, after these keys."""
+        self.told.unlink(missing_ok=True)
+        os.write(self.terminal, text.encode())
+        deadline = time.time() + 20
+        while time.time() < deadline:
+            if select.select([self.terminal], [], [], .05)[0]:
+                os.read(self.terminal, 65536)
+            lines = self.told.read_text().split("\n") if self.told.exists() else []
+            if "end" in lines:
+                return lines[:lines.index("end")]
+        sys.exit("zsh doesn't answer")
+
+    def offered(self, typed):
+        return [line.rstrip("/") for line in self.send("rt_command " + typed + "\x02")]
+
+    def close(self):
+        os.write(self.terminal, b"exit\n")
+        os.waitpid(self.child, 0)
+
+
+def main():
+    wrong = 0
+    with tempfile.TemporaryDirectory() as folder:
+        for name in FILES:
+            path = pathlib.Path(folder) / name
+            path.touch() if "." in name else path.mkdir()
+        zsh = Zsh(folder)
+        for typed, wanted in CASES:
+            shells = [("bash", in_bash(typed, folder)), ("zsh", zsh.offered(typed)), ("fish", in_fish(typed, folder))]
+            for shell, offered in shells:
+                # An option's value and a file may also be found among the folder's names; only what is asked for may come.
+                offered = sorted({word for word in offered if word})
+                if offered != sorted(wanted):
+                    wrong += 1
+                    print("  %s: `rt_command %s` offers %s, not %s" % (shell, typed, offered, sorted(wanted)))
+        zsh.close()
+    print("completions: %s" % ("%d faults" % wrong if wrong else "%d cases in bash, zsh and fish" % len(CASES)))
+    sys.exit(1 if wrong else 0)
+
+
+if __name__ == "__main__":
+    main()
