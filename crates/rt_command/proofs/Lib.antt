@@ -16,3 +16,4 @@ pub mod RowByRow
 pub mod OneFile
 pub mod Listed
 pub mod Checked
+pub mod Asked

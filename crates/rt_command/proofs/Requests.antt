@@ -11,9 +11,10 @@ use Rattle.feed_list.specs.Values.{is_path, path_of}
 use Rattle.rt_command.specs.declared.command.Command.{Command}
 use Rattle.rt_command.specs.declared.command.Command.TheVariants as command
 use Rattle.rt_command.specs.declared.request.Request.{Request}
-use Rattle.rt_command.specs.declared.request.Request.TheVariants.{Check, Follow, Show, Encode}
+use Rattle.rt_command.specs.declared.request.Request.TheVariants.{Check, Follow, Predict, Show, Encode}
 use Rattle.rt_command.specs.declared.options.Options.{Options}
-use Rattle.rt_command.specs.Words.{request, no_options, are_files, check_of, follow_of, asked_of, options_of, file_of, with_option, HasFeeds}
+use Rattle.rt_command.specs.declared.zone_word.ZoneWord.{ZoneWord}
+use Rattle.rt_command.specs.Words.{request, no_options, are_files, check_of, follow_of, predict_of, predicted, one_file, asked_of, options_of, file_of, with_option, HasFeeds}
 
 -- ---- a request has a feed for each of its files
 either_of : (b : Bool) (so other : Option Request) (asked : Request) → (Some asked ≡ so → HasFeeds asked) → (Some asked ≡ other → HasFeeds asked)
@@ -35,14 +36,14 @@ after_option : (options : Option Options) (found : Options → Option Request) (
 after_option None found asked has e = absurd (cc e)
 after_option (Some more) found asked has e = has more e
 
-few : (n : ℕ) (a b : Bool) → (a && (nat_le 1 n && nat_le n 16 && b)) ≡ true → n ≤ 16
-few n a b h = grind (arith, nat_tests)
+few : (n : ℕ) (a c b : Bool) → (a && c && (nat_le 1 n && nat_le n 16 && b)) ≡ true → n ≤ 16
+few n a c b h = grind (arith, nat_tests)
 
 check_has : (options : Options) (files : List (List ℕ)) (asked : Request) → Some asked ≡ check_of options files → HasFeeds asked
-check_has options files asked e = at (is_none options.list && are_files files) refl e
+check_has options files asked e = at (is_none options.list && is_none options.zone && are_files files) refl e
   where
-    at : (b : Bool) → (is_none options.list && are_files files) ≡ b → Some asked ≡ (if b then Some (Check options.folder options.moment files) else None) → HasFeeds asked
-    at true is e = of_same asked (Check options.folder options.moment files) (few (length files) _ _ is) e
+    at : (b : Bool) → (is_none options.list && is_none options.zone && are_files files) ≡ b → Some asked ≡ (if b then Some (Check options.folder options.moment files) else None) → HasFeeds asked
+    at true is e = of_same asked (Check options.folder options.moment files) (few (length files) _ _ _ is) e
     at false is e = none asked e
 
 mapped_has : (ask : List ℕ → Request) → ((text : List ℕ) → HasFeeds (ask text)) → (text : Option (List ℕ)) (asked : Request) → Some asked ≡ option_map ask text → HasFeeds asked
@@ -50,12 +51,27 @@ mapped_has ask has None asked e = none asked e
 mapped_has ask has (Some text) asked e = of_same asked (ask text) (has text) e
 
 follow_has : (options : Options) (files : List (List ℕ)) (asked : Request) → Some asked ≡ follow_of options files → HasFeeds asked
-follow_has options [] asked e = either_of (is_none options.moment) (option_map (Follow options.folder) options.list) None asked (mapped_has (Follow options.folder) (λ text. tt) options.list asked) (none asked) e
+follow_has options [] asked e = either_of (is_none options.moment && is_none options.zone) (option_map (Follow options.folder) options.list) None asked (mapped_has (Follow options.folder) (λ text. tt) options.list asked) (none asked) e
 follow_has options (file ∷ files) asked e = none asked e
+
+predicted_has : (folder : Option (List ℕ)) (zone : Option ZoneWord) (moment : Option ℕ) (file : List ℕ) (asked : Request) → Some asked ≡ predicted folder zone moment file → HasFeeds asked
+predicted_has None zone moment file asked e = none asked e
+predicted_has (Some folder) None moment file asked e = none asked e
+predicted_has (Some folder) (Some zone) moment file asked e = of_same asked (Predict folder zone moment file) tt e
+
+of_file_has : (file : Option (List ℕ)) (folder : Option (List ℕ)) (zone : Option ZoneWord) (moment : Option ℕ) (asked : Request) → Some asked ≡ option_and_then (predicted folder zone moment) file → HasFeeds asked
+of_file_has None folder zone moment asked e = none asked e
+of_file_has (Some file) folder zone moment asked e = predicted_has folder zone moment file asked e
+
+predict_has : (options : Options) (files : List (List ℕ)) (asked : Request) → Some asked ≡ predict_of options files → HasFeeds asked
+predict_has options files asked e =
+    either_of (is_none options.list) (option_and_then (predicted options.folder options.zone options.moment) (one_file files)) None asked
+    (of_file_has (one_file files) options.folder options.zone options.moment asked) (none asked) e
 
 asked_has : (name : Command) (options : Options) (files : List (List ℕ)) (asked : Request) → Some asked ≡ asked_of name options files → HasFeeds asked
 asked_has command.Check options files asked e = check_has options files asked e
 asked_has command.Follow options files asked e = follow_has options files asked e
+asked_has command.Predict options files asked e = predict_has options files asked e
 
 options_has : (name : Command) (options : Options) (words : List (List ℕ)) (asked : Request) → Some asked ≡ options_of name options words → HasFeeds asked
 options_has name options [] asked e = asked_has name options [] asked e
@@ -65,17 +81,16 @@ options_has name options (word ∷ value ∷ words) asked e =
     (after_option (with_option options word value) (λ more. options_of name more words) asked (λ more. options_has name more words asked)) e
 
 file_has : (ask : List ℕ → Request) → ((file : List ℕ) → HasFeeds (ask file)) → (words : List (List ℕ)) (asked : Request) → Some asked ≡ file_of ask words → HasFeeds asked
-file_has ask has [] asked e = none asked e
-file_has ask has (file ∷ []) asked e = mapped_has ask has (path_of file) asked e
-file_has ask has (file ∷ more ∷ words) asked e = none asked e
+file_has ask has words asked e = mapped_has ask has (one_file words) asked e
 
 pub request_has_feeds : (words : List (List ℕ)) (asked : Request) → Some asked ≡ request words → HasFeeds asked
 request_has_feeds [] asked e = none asked e
 request_has_feeds (name ∷ words) asked e =
     either_of (bytes_eq name (codes "check")) (options_of command.Check no_options words) _ asked (options_has command.Check no_options words asked)
     (either_of (bytes_eq name (codes "follow")) (options_of command.Follow no_options words) _ asked (options_has command.Follow no_options words asked)
+    (either_of (bytes_eq name (codes "predict")) (options_of command.Predict no_options words) _ asked (options_has command.Predict no_options words asked)
     (either_of (bytes_eq name (codes "show")) (file_of Show words) _ asked (file_has Show (λ file. tt) words asked)
-    (either_of (bytes_eq name (codes "encode")) (file_of Encode words) None asked (file_has Encode (λ file. tt) words asked) (none asked)))) e
+    (either_of (bytes_eq name (codes "encode")) (file_of Encode words) None asked (file_has Encode (λ file. tt) words asked) (none asked))))) e
 
 -- ---- words behind options
 -- fewer than two words hold no option and its value

@@ -1,13 +1,10 @@
 -- From what was said to what a run tells.
-use Rattle.std.proofs.Common.{◌≡◌, ℕ, List, inl, inr, sym, subst, Some, None, IfSome}
+use Rattle.std.proofs.Common.{◌≡◌, ℕ, List, inl, inr, sym, subst, Some, None}
 use Rattle.std.specs.declared.option.Option.{Option}
 use Rattle.std.specs.Io.KnownBytes.{append_known}
 use Rattle.rt_outside.specs.Sink.{SinkState}
-use Rattle.rt_outside.specs.Store.{Contents}
-use Rattle.rt_command.specs.declared.request.Request.{Request}
 use Rattle.rt_command.specs.declared.status.Status.{Status}
 use Rattle.rt_command.specs.declared.status.Status.TheVariants as answer
-use Rattle.rt_command.specs.Report.{Report, report_of, asked_report, usage_text}
 use Rattle.rt_command.specs.Faults.{TellsFault, IsErrorText, says_usage, says_memory, says_write_fault, says_read_fault, says_refused, says_bad_zone, Says, IsReported}
 
 -- a text that may stand there was said
@@ -17,20 +14,6 @@ pub tells : (reads : List ℕ → Type 0) (last : Option (List ℕ)) (before aft
 tells reads last before after text meant result is whole (inl said) = subst (TellsFault reads last before after) (sym said.0) (whole said.1)
 tells reads last before after text meant result is whole (inr said) =
     subst (TellsFault reads last before after) (sym said.0) (inr (said.1, (text, is, said.2)))
-
--- the usage text was said where there is no request
-pub usage_told : (told : Option Contents) (asked : Option Request) (now : ℕ) (before after : SinkState) (result : Status) → None ≡ asked →
-    Says usage_text answer.Usage before after result → IsReported result →
-    IfSome told (λ held. after.written ≡ append_known before.written (report_of asked now held).errors)
-usage_told None asked now before after result none said reported = tt
-usage_told (Some held) asked now before after result none (inl said) reported =
-    subst (λ a. after.written ≡ append_known before.written (report_of a now held).errors) none said.1
-usage_told (Some held) asked now before after result none (inr said) reported = absurd (subst IsReported said.0 reported)
-
--- what holds of the report on what is asked for holds of the report on the words
-pub report_told : (P : Report → Type 0) (told : Option Contents) (asked : Request) (request : Option Request) (now : ℕ) → Some asked ≡ request →
-    IfSome told (λ held. P (asked_report asked now held)) → IfSome told (λ held. P (report_of request now held))
-report_told P told asked request now is = subst (λ r. IfSome told (λ held. P (report_of r now held))) is
 
 -- where more files are read, a text that may stand there still may
 error_text_more : (reads more : List ℕ → Type 0) (text : List ℕ) → ((name : List ℕ) → reads name → more name) →

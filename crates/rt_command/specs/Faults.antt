@@ -15,13 +15,13 @@ use Rattle.rt_command.specs.declared.fault.Fault.TheVariants as fault
 use Rattle.rt_command.specs.declared.input_fault.InputFault.{InputFault}
 use Rattle.rt_command.specs.declared.input_fault.InputFault.TheVariants as input
 use Rattle.rt_command.specs.declared.request.Request.{Request}
-use Rattle.rt_command.specs.declared.request.Request.TheVariants.{Check, Follow, Show, Encode}
+use Rattle.rt_command.specs.declared.request.Request.TheVariants.{Check, Follow, Predict, Show, Encode}
 use Rattle.rt_command.specs.declared.status.Status.{Status}
 use Rattle.rt_command.specs.declared.status.Status.TheVariants as answer
 use Rattle.rt_command.specs.Inputs.{refused_text, refusal_text}
 use Rattle.rt_command.specs.JsonInputs.{input_text}
 use Rattle.rt_command.specs.Report.{usage_text}
-use Rattle.rt_command.specs.Zones.{bad_zone_text}
+use Rattle.rt_command.specs.Zones.{IsZoneFile, bad_zone_text}
 use Rattle.timetable.specs.Folders.{path}
 use Rattle.timetable.specs.declared.fault.LoadFault.{LoadFault}
 use Rattle.timetable.specs.declared.fault.LoadFault.TheVariants as load
@@ -63,6 +63,7 @@ abbrev pub Reads : Option Request → Option Contents → List ℕ → Type 0
 Reads None told name = ⊥
 Reads (Some (Check folder now files)) told name = IsInput folder files name
 Reads (Some (Follow folder list)) told name = IsFollowed told folder list name
+Reads (Some (Predict folder zone now file)) told name = (Contains (file ∷ []) name ⊎ IsZoneFile zone name) ⊎ IsTableFile (Some folder) name
 Reads (Some (Show file)) told name = Contains (file ∷ []) name
 Reads (Some (Encode file)) told name = Contains (file ∷ []) name
 
@@ -71,6 +72,7 @@ abbrev pub IsWithoutEngine : Option Request → Type 0
 IsWithoutEngine None = ⊤
 IsWithoutEngine (Some (Check folder now files)) = ⊥
 IsWithoutEngine (Some (Follow folder list)) = ⊥
+IsWithoutEngine (Some (Predict folder zone now file)) = ⊤
 IsWithoutEngine (Some (Show file)) = ⊤
 IsWithoutEngine (Some (Encode file)) = ⊤
 

@@ -14,3 +14,4 @@ pub mod Outside
 pub mod Carried
 pub mod Zones
 pub mod Predicted
+pub mod Reported

@@ -1,6 +1,6 @@
--- What a run is to write and to answer: a function of the words, the moment and what the files hold.
--- It doesn't see how the bytes arrive. (This profile.)
-use Rattle.std.specs.Prelude.{ℕ, Bool, ◌||◌, List, [], ◌∷◌, ◌++◌, codes, if◌then◌else◌, Option, Some, None, Result, Ok, Err, unwrap_or}
+-- What commands are to write and to answer: functions of the words, the moment and what the files hold.
+-- They don't see how the bytes arrive. (This profile.)
+use Rattle.std.specs.Prelude.{ℕ, Bool, ◌||◌, List, [], ◌∷◌, ◌++◌, codes, if◌then◌else◌, Option, Some, None, Result, Ok, Err}
 use Rattle.std.specs.List.{flat_map}
 use Rattle.std.specs.FinMap.{get}
 use Rattle.rt_outside.specs.Store.{Contents}
@@ -23,8 +23,6 @@ use Rattle.engine_laws.specs.Computed.{standings}
 use Rattle.rt_report.specs.Lines.{line_of, refused}
 use Rattle.rt_report.specs.declared.finding.LineKind.TheVariants as line
 use Rattle.rt_command.specs.declared.input_fault.InputFault.{InputFault}
-use Rattle.rt_command.specs.declared.request.Request.{Request}
-use Rattle.rt_command.specs.declared.request.Request.TheVariants.{Check, Follow, Show, Encode}
 use Rattle.rt_command.specs.declared.status.Status.{Status}
 use Rattle.rt_command.specs.declared.status.Status.TheVariants as answer
 use Rattle.rt_command.specs.declared.telling.Telling.TheVariants.{Counts, Changes}
@@ -32,7 +30,6 @@ use Rattle.rt_command.specs.Findings.{standing_text, any_error}
 use Rattle.rt_command.specs.Inputs.{refused_text, timetable_refusal, timetable_of}
 use Rattle.rt_command.specs.JsonInputs.{input_message, input_text}
 use Rattle.rt_command.specs.Rows.{Outcome, all_rows, file_rows}
-use Rattle.rt_command.specs.Words.{request}
 
 -- the text for the output, the text for the errors, and the answer
 pub record Report : Type 0 where
@@ -115,20 +112,9 @@ written_report file (Err fault) = refused_input (input_text file fault)
 abbrev pub encode_report : List ℕ → Contents → Report
 encode_report file contents = written_report file (input_message (get contents file))
 
--- the report on a request; the moment of `check` is that of its words, or else the clock's
-abbrev pub asked_report : Request → ℕ → Contents → Report
-asked_report (Check folder moment files) now contents = check_report folder (unwrap_or moment now) files contents
-asked_report (Follow folder list) now contents = follow_report folder list contents
-asked_report (Show file) now contents = file_report shown_report file contents
-asked_report (Encode file) now contents = encode_report file contents
-
 abbrev pub usage_text : List ℕ
 usage_text = codes "usage: rt_command check [--timetable DIR] [--now N] FILE...\n       rt_command follow [--timetable DIR] --list FILE\n       rt_command predict --timetable DIR (--zone-rule TEXT | --zone-file FILE) [--now N] FILE\n       rt_command show FILE\n       rt_command encode FILE\n       rt_command trial N\n"
 
-abbrev pub report_of : Option Request → ℕ → Contents → Report
-report_of None now contents = record { text = []; errors = usage_text; status = answer.Usage }
-report_of (Some asked) now contents = asked_report asked now contents
-
--- the report of these words at this moment over these files
-abbrev pub report : List (List ℕ) → ℕ → Contents → Report
-report words now contents = report_of (request words) now contents
+-- the report where the words give no request
+abbrev pub usage_report : Report
+usage_report = record { text = []; errors = usage_text; status = answer.Usage }

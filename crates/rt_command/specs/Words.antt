@@ -6,27 +6,34 @@ use Rattle.feed_list.specs.Values.{is_path, path_of, number_of}
 use Rattle.rt_command.specs.declared.command.Command.{Command}
 use Rattle.rt_command.specs.declared.command.Command.TheVariants as command
 use Rattle.rt_command.specs.declared.options.Options.{Options}
+use Rattle.rt_command.specs.declared.zone_word.ZoneWord.{ZoneWord}
+use Rattle.rt_command.specs.declared.zone_word.ZoneWord.TheVariants.{Rule, File}
 use Rattle.rt_command.specs.declared.request.Request.{Request}
-use Rattle.rt_command.specs.declared.request.Request.TheVariants.{Check, Follow, Show, Encode}
+use Rattle.rt_command.specs.declared.request.Request.TheVariants.{Check, Follow, Predict, Show, Encode}
 
 abbrev pub no_options : Options
-no_options = record { folder = None; moment = None; list = None }
+no_options = record { folder = None; moment = None; list = None; zone = None }
 
 -- ---- the options with one more; each may be given once
 abbrev pub with_folder : Options → List ℕ → Option Options
-with_folder options folder = if is_none options.folder then Some (record { folder = Some folder; moment = options.moment; list = options.list }) else None
+with_folder options folder = if is_none options.folder then Some (record { folder = Some folder; moment = options.moment; list = options.list; zone = options.zone }) else None
 
 abbrev pub with_moment : Options → ℕ → Option Options
-with_moment options moment = if is_none options.moment then Some (record { folder = options.folder; moment = Some moment; list = options.list }) else None
+with_moment options moment = if is_none options.moment then Some (record { folder = options.folder; moment = Some moment; list = options.list; zone = options.zone }) else None
 
 abbrev pub with_list : Options → List ℕ → Option Options
-with_list options list = if is_none options.list then Some (record { folder = options.folder; moment = options.moment; list = Some list }) else None
+with_list options list = if is_none options.list then Some (record { folder = options.folder; moment = options.moment; list = Some list; zone = options.zone }) else None
+
+abbrev pub with_zone : Options → ZoneWord → Option Options
+with_zone options zone = if is_none options.zone then Some (record { folder = options.folder; moment = options.moment; list = options.list; zone = Some zone }) else None
 
 -- an option whose value is a text
 abbrev pub with_text : Options → List ℕ → List ℕ → Option Options
 with_text options name text =
     if bytes_eq name (codes "--timetable") then with_folder options text
-    else (if bytes_eq name (codes "--list") then with_list options text else None)
+    else (if bytes_eq name (codes "--list") then with_list options text
+    else (if bytes_eq name (codes "--zone-rule") then with_zone options (Rule text)
+    else (if bytes_eq name (codes "--zone-file") then with_zone options (File text) else None)))
 
 -- An option and its value: a number behind `--now`, and behind others a text that isn't empty and doesn't begin with a dash.
 abbrev pub with_option : Options → List ℕ → List ℕ → Option Options
@@ -40,15 +47,28 @@ abbrev pub are_files : List (List ℕ) → Bool
 are_files files = nat_le 1 (length files) && nat_le (length files) 16 && list_all is_path files
 
 abbrev pub check_of : Options → List (List ℕ) → Option Request
-check_of options files = if is_none options.list && are_files files then Some (Check options.folder options.moment files) else None
+check_of options files = if is_none options.list && is_none options.zone && are_files files then Some (Check options.folder options.moment files) else None
 
 abbrev pub follow_of : Options → List (List ℕ) → Option Request
-follow_of options [] = if is_none options.moment then option_map (Follow options.folder) options.list else None
+follow_of options [] = if is_none options.moment && is_none options.zone then option_map (Follow options.folder) options.list else None
 follow_of options (file ∷ files) = None
+
+-- the file of words that are one file
+abbrev pub one_file : List (List ℕ) → Option (List ℕ)
+one_file [] = None
+one_file (file ∷ []) = path_of file
+one_file (file ∷ more ∷ words) = None
+
+abbrev pub predicted : Option (List ℕ) → Option ZoneWord → Option ℕ → List ℕ → Option Request
+predicted folder zone moment file = option_and_then (λ f. option_map (λ z. Predict f z moment file) zone) folder
+
+abbrev pub predict_of : Options → List (List ℕ) → Option Request
+predict_of options files = if is_none options.list then option_and_then (predicted options.folder options.zone options.moment) (one_file files) else None
 
 abbrev pub asked_of : Command → Options → List (List ℕ) → Option Request
 asked_of command.Check options files = check_of options files
 asked_of command.Follow options files = follow_of options files
+asked_of command.Predict options files = predict_of options files
 
 -- The request of a command and what stands behind some of its options: further options, each before its value, and then the
 -- words that are no options.
@@ -61,9 +81,7 @@ options_of command options (name ∷ value ∷ words) =
 
 -- what stands after a command that takes one file
 abbrev pub file_of : (List ℕ → Request) → List (List ℕ) → Option Request
-file_of ask [] = None
-file_of ask (file ∷ []) = option_map ask (path_of file)
-file_of ask (file ∷ more ∷ words) = None
+file_of ask words = option_map ask (one_file words)
 
 -- the request of these words, if they give one
 abbrev pub request : List (List ℕ) → Option Request
@@ -71,12 +89,14 @@ request [] = None
 request (name ∷ words) =
     if bytes_eq name (codes "check") then options_of command.Check no_options words
     else (if bytes_eq name (codes "follow") then options_of command.Follow no_options words
+    else (if bytes_eq name (codes "predict") then options_of command.Predict no_options words
     else (if bytes_eq name (codes "show") then file_of Show words
-    else (if bytes_eq name (codes "encode") then file_of Encode words else None)))
+    else (if bytes_eq name (codes "encode") then file_of Encode words else None))))
 
 -- there is a feed for each file of `check`
 abbrev pub HasFeeds : Request → Type 0
 HasFeeds (Check folder now files) = length files ≤ 16
 HasFeeds (Follow folder list) = ⊤
+HasFeeds (Predict folder zone now file) = ⊤
 HasFeeds (Show file) = ⊤
 HasFeeds (Encode file) = ⊤

@@ -5,4 +5,5 @@
 pub enum Command {
     Check,
     Follow,
+    Predict,
 }

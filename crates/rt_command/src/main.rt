@@ -1,7 +1,7 @@
 //! `rt_command`: validates GTFS Realtime 2.0 feeds.
 //!
 //! What [`run`] writes and answers is the report of its words, its moment and what the files hold:
-//! `specs/Report.antt` defines it, down to the bytes, and the contract of `run` says it. What
+//! `specs/Reported.antt` defines it, down to the bytes, and the contract of `run` says it. What
 //! hinders a run, a failed read, a failed write or want of memory, is answered and told on the
 //! error stream, and what stands on the output is then a prefix of the report.
 //!

@@ -1,8 +1,9 @@
 //! The options of a command line.
 ghost use Rattle.std.specs.Prelude.{◌≡◌, IfOk};
 ghost use Rattle.feed_list.specs.Values.{path_of};
-ghost use Rattle.rt_command.specs.Words.{no_options, with_folder, with_moment, with_list, with_text, with_option};
+ghost use Rattle.rt_command.specs.Words.{no_options, with_folder, with_moment, with_list, with_zone, with_text, with_option};
 
+use crate::zone_word::ZoneWord;
 use feed_list::{is_path, number_of};
 use feed_values::Text;
 use std::alloc::{AllocError, Global};
@@ -16,6 +17,8 @@ pub struct Options {
     pub moment: Option<u64>,
     /// The file of a list of snapshots.
     pub list: Option<Text>,
+    /// The zone whose clocks the times of the timetable are those of.
+    pub zone: Option<ZoneWord>,
 }
 
 impl Options {
@@ -27,6 +30,7 @@ impl Options {
             folder: None,
             moment: None,
             list: None,
+            zone: None,
         }
     }
 
@@ -55,6 +59,10 @@ impl Options {
             self.with_folder(text)
         } else if name == "--list" {
             self.with_list(text)
+        } else if name == "--zone-rule" {
+            self.with_zone(ZoneWord::Rule(text))
+        } else if name == "--zone-file" {
+            self.with_zone(ZoneWord::File(text))
         } else {
             None
         }
@@ -70,6 +78,7 @@ impl Options {
             folder: Some(folder),
             moment: self.moment,
             list: self.list,
+            zone: self.zone,
         })
     }
 
@@ -83,6 +92,7 @@ impl Options {
             folder: self.folder,
             moment: Some(moment),
             list: self.list,
+            zone: self.zone,
         })
     }
 
@@ -96,6 +106,21 @@ impl Options {
             folder: self.folder,
             moment: self.moment,
             list: Some(list),
+            zone: self.zone,
+        })
+    }
+
+    fn with_zone(self, zone: ZoneWord) -> Option<Options>
+        ensures { result ≡ with_zone self zone }
+    {
+        if self.zone.is_some() {
+            return None;
+        }
+        Some(Options {
+            folder: self.folder,
+            moment: self.moment,
+            list: self.list,
+            zone: Some(zone),
         })
     }
 }

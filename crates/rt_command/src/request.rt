@@ -1,5 +1,6 @@
 //! What a command line asks for.
 
+use crate::zone_word::ZoneWord;
 use feed_values::{Items, Text};
 
 /// What the words of a command line ask for.
@@ -19,6 +20,17 @@ pub enum Request {
     Follow {
         folder: Option<Text>,
         list: Text,
+    },
+    /// To write the table of stop events of the snapshot in this file, on the timetable in the folder, whose times are those of
+    /// the zone's clocks.
+    ///
+    /// `now` is the moment that decides the service day where a trip states none, as POSIX time in seconds, in place of the
+    /// clock's.
+    Predict {
+        folder: Text,
+        zone: ZoneWord,
+        now: Option<u64>,
+        file: Text,
     },
     /// To write the snapshot in this file as JSON.
     Show {

@@ -1,18 +1,17 @@
 //! The whole of what the program does.
-ghost use Rattle.std.specs.Prelude.{◌≡◌, ◌⊎◌, IfSome, Some, None, map, string_bytes};
-ghost use Rattle.std.specs.Io.KnownBytes.{append_known};
+ghost use Rattle.std.specs.Prelude.{◌≡◌, ◌⊎◌, Some, None, map, string_bytes};
 ghost use Rattle.rt_outside.specs.Causes.{Rose};
-ghost use Rattle.rt_outside.specs.Sink.{AppendsPrefix};
 ghost use Rattle.rt_outside.specs.Store.{contents_told};
 ghost use Rattle.rt_command.specs.Words.{request, HasFeeds};
-ghost use Rattle.rt_command.specs.Report.{report, asked_report};
-ghost use Rattle.rt_command.specs.Carried.{CarriesOut};
+ghost use Rattle.rt_command.specs.Predicted.{CarriesOutOne};
+ghost use Rattle.rt_command.specs.Reported.{IsAsked, IsReport, TellsReport};
 ghost use Rattle.rt_command.specs.Outside.{outside};
-ghost use Rattle.rt_command.specs.Faults.{Reads, IsReported, IsWithoutRequest, IsWithoutEngine, TellsFault};
+ghost use Rattle.rt_command.specs.Faults.{Reads, IsWithoutRequest, IsWithoutEngine, TellsFault};
 
 use crate::check::check;
 use crate::encode::encode;
 use crate::follow::follow;
+use crate::predict::predict;
 use crate::report_file::report_file;
 use crate::request::Request;
 use crate::say::{say, say_memory};
@@ -46,22 +45,13 @@ pub fn run<F: Files, S: Sink, E: Sink, D: Ledger, T: Ledger>(
     decodes: &mut Steps<D>,
     tests: &mut Steps<T>,
 ) -> Status
-    // A prefix of the report's text was written to the output, and all of it where the answer is
-    // one that a report may have.
-    ensures text { IfSome (contents_told (F.state files.old).told) (λ held.
-        AppendsPrefix (S.state out.old).written (S.state out.new).written
-        (report (map string_bytes words.now) now held).text) }
-    ensures whole { IsReported result → IfSome (contents_told (F.state files.old).told) (λ held.
-        (S.state out.new).written ≡ append_known (S.state out.old).written
-        (report (map string_bytes words.now) now held).text) }
+    // A prefix of a report on the words was written to the output. Where the answer is one that a report may have, all of it was,
+    // and the answer and what was written to the error stream are the report's.
+    ensures report { TellsReport (IsReport (map string_bytes words.now) now)
+        (outside (F.state files.old) (S.state out.old) (E.state err.old))
+        (outside (F.state files.new) (S.state out.new) (E.state err.new)) result }
 
-    // That answer is then the report's, and so is what was written to the error stream. The words
-    // give no request exactly where the answer is Usage, but for want of memory and a failed write.
-    ensures status { IsReported result → IfSome (contents_told (F.state files.old).told) (λ held.
-        result ≡ (report (map string_bytes words.now) now held).status) }
-    ensures errors { IsReported result → IfSome (contents_told (F.state files.old).told) (λ held.
-        (E.state err.new).written ≡ append_known (E.state err.old).written
-        (report (map string_bytes words.now) now held).errors) }
+    // The words give no request exactly where the answer is Usage, but for want of memory and a failed write.
     ensures usage { result ≡ Status.Usage → request (map string_bytes words.now) ≡ None }
     ensures no_request { request (map string_bytes words.now) ≡ None → IsWithoutRequest result }
 
@@ -98,7 +88,7 @@ fn carry_out<F: Files, S: Sink, E: Sink, D: Ledger, T: Ledger>(
     tests: &mut Steps<T>,
 ) -> Status
     requires { HasFeeds request.now }
-    ensures carried { CarriesOut (asked_report request.now now) (Reads (Some request.now) (contents_told (F.state files.old).told))
+    ensures carried { CarriesOutOne (IsAsked request.now now) (Reads (Some request.now) (contents_told (F.state files.old).told))
         (outside (F.state files.old) (S.state out.old) (E.state err.old))
         (outside (F.state files.new) (S.state out.new) (E.state err.new)) result }
     ensures decodes { IsWithoutEngine (Some request.now) → decodes.new ≡ decodes.old }
@@ -127,6 +117,24 @@ fn carry_out<F: Files, S: Sink, E: Sink, D: Ledger, T: Ledger>(
                 err,
                 decodes,
                 tests,
+            )
+        }
+        Request::Predict {
+            folder,
+            zone,
+            now: moment,
+            file,
+        } => {
+            let moment = moment.unwrap_or(now);
+            predict(
+                alloc,
+                folder.as_str(),
+                zone,
+                moment,
+                file.as_str(),
+                files,
+                out,
+                err,
             )
         }
         Request::Show { file } => {

@@ -2,12 +2,13 @@
 ghost use Rattle.std.specs.Prelude.{◌≡◌, IfOk, ◌∷◌, map, option_map, string_bytes};
 ghost use Rattle.std.specs.List.{list_all};
 ghost use Rattle.feed_list.specs.Values as values;
-ghost use Rattle.rt_command.specs.Words.{are_files, asked_of, check_of, follow_of, options_of, file_of, request};
+ghost use Rattle.rt_command.specs.Words.{are_files, asked_of, check_of, follow_of, predict_of, predicted, one_file, options_of, file_of, request};
 ghost use Rattle.rt_command.specs.declared.request.Request.TheVariants.{Show, Encode};
 
 use crate::command::Command;
 use crate::options::{Options, path_of};
 use crate::request::Request;
+use crate::zone_word::ZoneWord;
 use feed_list::is_path;
 use feed_values::{Items, Text};
 use std::alloc::{AllocError, Global};
@@ -18,9 +19,10 @@ const FEEDS: usize = 16;
 /// The request of the words after the program's name, or none where they give no request.
 ///
 /// So far these are `check` with 1 to 16 files, and before them `--timetable` with a folder and `--now` with a moment;
-/// `follow` with `--list` and a file, and `--timetable` with a folder; and `show` and `encode`, each with one file. Options
-/// stand before the files in any order, each at most once. A number has 1 to 20 digits, and its value fits 64 bits. No
-/// file and no folder is empty or begins with a dash.
+/// `follow` with `--list` and a file, and `--timetable` with a folder; `predict` with one file, and before it `--timetable`
+/// with a folder, one of `--zone-rule` with a text and `--zone-file` with a file, and `--now` with a moment; and `show` and
+/// `encode`, each with one file. Options stand before the files in any order, each at most once. A number has 1 to 20 digits,
+/// and its value fits 64 bits. No file and no value of an option is empty or begins with a dash.
 pub fn words_of(alloc: Global, words: &[String]) -> Result<Option<Request>, AllocError>
     ensures { IfOk result (λ found. found ≡ request (map string_bytes words.now)) }
 {
@@ -38,6 +40,8 @@ fn request_of(alloc: Global, command: &str, words: &[String]) -> Result<Option<R
         options_of(alloc, Command::Check, Options::none(), words)
     } else if command == "follow" {
         options_of(alloc, Command::Follow, Options::none(), words)
+    } else if command == "predict" {
+        options_of(alloc, Command::Predict, Options::none(), words)
     } else if command == "show" {
         Ok(file_of(alloc, words)?.map(|file| Request::Show { file }))
     } else if command == "encode" {
@@ -51,6 +55,7 @@ fn request_of(alloc: Global, command: &str, words: &[String]) -> Result<Option<R
 fn file_of(alloc: Global, words: &[String]) -> Result<Option<Text>, AllocError>
     ensures show { IfOk result (λ file. option_map Show file ≡ file_of Show (map string_bytes words.now)) }
     ensures encode { IfOk result (λ file. option_map Encode file ≡ file_of Encode (map string_bytes words.now)) }
+    ensures file { IfOk result (λ file. file ≡ one_file (map string_bytes words.now)) }
 {
     match words {
         [file] => path_of(alloc, file.as_str()),
@@ -93,6 +98,7 @@ fn asked_of(
     match command {
         Command::Check => check_of(alloc, options, files),
         Command::Follow => Ok(follow_of(options, files)),
+        Command::Predict => predict_of(alloc, options, files),
     }
 }
 
@@ -103,7 +109,7 @@ fn check_of(
 ) -> Result<Option<Request>, AllocError>
     ensures { IfOk result (λ found. found ≡ check_of options (map string_bytes files.now)) }
 {
-    if options.list.is_some() || !are_files(files) {
+    if options.list.is_some() || options.zone.is_some() || !are_files(files) {
         return Ok(None);
     }
     let files = texts_of(alloc, files)?;
@@ -117,13 +123,48 @@ fn check_of(
 fn follow_of(options: Options, files: &[String]) -> Option<Request>
     ensures { result ≡ follow_of options (map string_bytes files.now) }
 {
-    if options.moment.is_some() || !files.is_empty() {
+    if options.moment.is_some() || options.zone.is_some() || !files.is_empty() {
         return None;
     }
     let list = options.list?;
     Some(Request::Follow {
         folder: options.folder,
         list,
+    })
+}
+
+fn predict_of(
+    alloc: Global,
+    options: Options,
+    files: &[String],
+) -> Result<Option<Request>, AllocError>
+    ensures { IfOk result (λ found. found ≡ predict_of options (map string_bytes files.now)) }
+{
+    if options.list.is_some() {
+        return Ok(None);
+    }
+    let Some(file) = file_of(alloc, files)? else {
+        return Ok(None);
+    };
+    Ok(predicted(options.folder, options.zone, options.moment, file))
+}
+
+// The request of `predict` with these options, of which it wants a folder and a zone.
+fn predicted(
+    folder: Option<Text>,
+    zone: Option<ZoneWord>,
+    now: Option<u64>,
+    file: Text,
+) -> Option<Request>
+    ensures { result ≡ predicted folder zone now file }
+{
+    let folder = folder?;
+    let zone = zone?;
+    Some(Request::Predict {
+        folder,
+        zone,
+        now,
+        file,
     })
 }
 
