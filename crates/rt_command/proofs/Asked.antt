@@ -14,6 +14,7 @@ use Rattle.rt_command.specs.Outside.{Outside, outside}
 use Rattle.rt_command.specs.Predicted.{CarriesOutOne, Extent, Whole, MayBegin}
 use Rattle.rt_command.specs.Report.{Report, usage_report, usage_text}
 use Rattle.rt_command.specs.Reported.{IsAsked, IsReportOf, TellsReport}
+use Rattle.rt_command.proofs.Chosen.{all}
 use Rattle.rt_command.proofs.Texts.{nothing}
 
 -- ---- a report that is a function is one of a relation
@@ -87,10 +88,6 @@ tells_nothing_more is files later out eb ea result none = record {
   status = λ r. absurd (none r);
   errors = λ r. absurd (none r);
 }
-  where
-    all : (o : Option Contents) (P : Contents → Type 0) → ((held : Contents) → P held) → IfSome o P
-    all None P p = tt
-    all (Some held) P p = p held
 
 -- the usage text was said where there is no request
 pub tells_usage : (found : Option Request) (now : ℕ) (files later : FilesState) (out eb ea : SinkState) (result : Status) → None ≡ found → Says usage_text answer.Usage eb ea result →
@@ -104,10 +101,6 @@ tells_usage found now files later out eb ea result none (inl said) = subst (λ o
   status = λ r. all (contents_told files.told) _ (λ held. said.0);
   errors = λ r. all (contents_told files.told) _ (λ held. said.1);
 })
-  where
-    all : (o : Option Contents) (P : Contents → Type 0) → ((held : Contents) → P held) → IfSome o P
-    all None P p = tt
-    all (Some held) P p = p held
 tells_usage found now files later out eb ea result none (inr said) = tells_nothing_more (IsReportOf found now) files later out eb ea result (λ r. subst IsReported said.0 r)
 
 -- want of memory was told

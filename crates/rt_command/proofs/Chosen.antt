@@ -56,7 +56,7 @@ fault_reported fault.Write file before after result = says_reported _ answer.Wri
 fault_reported fault.Memory file before after result = says_reported _ answer.Memory before after result (λ r. r)
 
 -- nothing is told where a request was carried out
-quiet : (reads : List ℕ → Type 0) (last : Option (List ℕ)) (before after : SinkState) (result : Status) → IsCarriedOut result → TellsFault reads last before after result
+pub quiet : (reads : List ℕ → Type 0) (last : Option (List ℕ)) (before after : SinkState) (result : Status) → IsCarriedOut result → TellsFault reads last before after result
 quiet reads last before after answer.Clean c = tt
 quiet reads last before after answer.Found c = tt
 quiet reads last before after answer.Usage c = absurd c

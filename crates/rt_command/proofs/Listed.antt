@@ -23,6 +23,7 @@ use Rattle.rt_command.specs.Inputs.{refused_text}
 use Rattle.rt_command.specs.Outside.{Outside, outside}
 use Rattle.rt_command.specs.Report.{Report, found, followed, list_report, rows_report, refused_input}
 use Rattle.rt_command.specs.Rows.{all_rows}
+use Rattle.rt_command.proofs.Chosen.{each, quiet}
 
 -- what is read without a timetable is read with one
 pub followed_more : (mid told : Option Contents) (folder : Option (List ℕ)) (list : List ℕ) → mid ≡ told → (name : List ℕ) → IsFollowed mid None list name → IsFollowed told folder list name
@@ -55,37 +56,24 @@ list_refused None t list why is = tt
 list_refused (Some held) t list why is = ap (λ r. rows_report t list r held) is
 
 -- ---- a request that was carried out
-tells_nothing : (reads : List ℕ → Type 0) (last : Option (List ℕ)) (before after : SinkState) (result : Status) → IsCarriedOut result → TellsFault reads last before after result
-tells_nothing reads last before after answer.Clean is = tt
-tells_nothing reads last before after answer.Found is = tt
-tells_nothing reads last before after answer.Usage is = absurd is
-tells_nothing reads last before after answer.ReadFault is = absurd is
-tells_nothing reads last before after answer.WriteFault is = absurd is
-tells_nothing reads last before after answer.Memory is = absurd is
-tells_nothing reads last before after answer.Refused is = absurd is
-
 -- all was written, and nothing on the error stream
 pub carried_done : (report : Contents → Report) (reads : List ℕ → Type 0) (before after : Outside) (result : Status) → IsCarriedOut result → after.err ≡ before.err →
     IfSome (contents_told before.files.told) (λ held. (after.out.written ≡ append_known before.out.written (report held).text) × (result ≡ (report held).status) × ((report held).errors ≡ [])) →
     CarriesOut report reads before after result
-carried_done report reads before after result is quiet all = record {
-  text = told (λ r. AppendsPrefix before.out.written after.out.written r.text) (λ r w. AppendsPrefix-whole before.out.written after.out.written r.text w.0);
-  whole = λ _. told (λ r. after.out.written ≡ append_known before.out.written r.text) (λ r w. w.0);
-  status = λ _. told (λ r. result ≡ r.status) (λ r w. w.1);
-  errors = λ _. told (λ r. after.err.written ≡ append_known before.err.written r.errors)
-      (λ r w. ap (λ e. e.written) quiet ∙ sym (append_known-nil before.err.written) ∙ ap (append_known before.err.written) (sym w.2));
+carried_done report reads before after result is silent all = record {
+  text = there (λ r. AppendsPrefix before.out.written after.out.written r.text) (λ r w. AppendsPrefix-whole before.out.written after.out.written r.text w.0);
+  whole = λ _. there (λ r. after.out.written ≡ append_known before.out.written r.text) (λ r w. w.0);
+  status = λ _. there (λ r. result ≡ r.status) (λ r w. w.1);
+  errors = λ _. there (λ r. after.err.written ≡ append_known before.err.written r.errors)
+      (λ r w. ap (λ e. e.written) silent ∙ sym (append_known-nil before.err.written) ∙ ap (append_known before.err.written) (sym w.2));
   not_usage = λ e. subst IsCarriedOut e is;
   read_fault = λ e. absurd (subst IsCarriedOut e is);
   write_fault = λ e. absurd (subst IsCarriedOut e is);
-  told = tells_nothing reads after.files.asked before.err after.err result is;
+  told = quiet reads after.files.asked before.err after.err result is;
 }
   where
-    told : (P : Report → Type 0) → ((r : Report) → (after.out.written ≡ append_known before.out.written r.text) × (result ≡ r.status) × (r.errors ≡ []) → P r) → IfSome (contents_told before.files.told) (λ held. P (report held))
-    told P gives = at (contents_told before.files.told) all
-      where
-        at : (contents : Option Contents) → IfSome contents (λ held. (after.out.written ≡ append_known before.out.written (report held).text) × (result ≡ (report held).status) × ((report held).errors ≡ [])) → IfSome contents (λ held. P (report held))
-        at None w = tt
-        at (Some held) w = gives (report held) w
+    there : (P : Report → Type 0) → ((r : Report) → (after.out.written ≡ append_known before.out.written r.text) × (result ≡ r.status) × (r.errors ≡ []) → P r) → IfSome (contents_told before.files.told) (λ held. P (report held))
+    there P gives = each (contents_told before.files.told) _ (λ held. P (report held)) (λ held w. gives (report held) w) all
 
 -- rows that were followed to their end
 pub rows_done : (told : Option Contents) (t : Option Tables) (rows : List ListRow) (engine : Engine) (error : Bool) (before now : Option (List ℕ)) (result : Status) → result ≡ found error →
