@@ -1,18 +1,20 @@
 -- From a request to the words that give it.
-use Rattle.std.proofs.Common.{◌≡◌, ℕ, List, [], ◌⊎◌, inl, inr, refl, sym, ap, ◌∙◌, subst, Some, None, IfSome}
+use Rattle.std.proofs.Common.{◌≡◌, ℕ, List, [], ◌⊎◌, inl, inr, refl, sym, ap, ◌∙◌, subst, unwrap_or, Some, None, IfSome}
 use Rattle.std.specs.declared.option.Option.{Option}
 use Rattle.std.specs.Io.KnownBytes.{append_known}
 use Rattle.rt_outside.specs.Sink.{AppendsPrefix, SinkState}
 use Rattle.rt_outside.specs.Store.{Contents, FilesState, contents_told}
 use Rattle.rt_outside.proofs.Appends.{append_known-nil, AppendsPrefix-nothing}
 use Rattle.rt_command.specs.declared.request.Request.{Request}
+use Rattle.rt_command.specs.declared.request.Request.TheVariants.{Predict}
+use Rattle.rt_command.specs.declared.zone_word.ZoneWord.{ZoneWord}
 use Rattle.rt_command.specs.declared.status.Status.{Status}
 use Rattle.rt_command.specs.declared.status.Status.TheVariants as answer
 use Rattle.rt_command.specs.Carried.{CarriesOut}
-use Rattle.rt_command.specs.Faults.{Says, IsReported}
+use Rattle.rt_command.specs.Faults.{Says, IsReported, IsFollowed, Reads}
 use Rattle.rt_command.specs.Outside.{Outside, outside}
-use Rattle.rt_command.specs.Predicted.{CarriesOutOne, Extent, Whole, MayBegin}
-use Rattle.rt_command.specs.Report.{Report, usage_report, usage_text}
+use Rattle.rt_command.specs.Predicted.{CarriesOutOne, Extent, Whole, MayBegin, IsPredictReport, IsPredictInput}
+use Rattle.rt_command.specs.Report.{Report, follow_report, usage_report, usage_text}
 use Rattle.rt_command.specs.Reported.{IsAsked, IsReportOf, TellsReport}
 use Rattle.rt_command.proofs.Chosen.{all}
 use Rattle.rt_command.proofs.Texts.{nothing}
@@ -62,6 +64,22 @@ module _ (report : Contents → Report) (reads : List ℕ → Type 0) (before af
 
   pub one_report : CarriesOutOne (λ extent held r. r ≡ report held) reads before after result
   one_report = one_at (contents_told before.files.told) refl
+
+-- the same of an equal folder and an equal list
+pub carried_listed : (told : Option Contents) (f g : Option (List ℕ)) (a b : List ℕ) (before after : Outside) (result : Status) → f ≡ g → a ≡ b →
+    CarriesOut (follow_report f a) (IsFollowed told f a) before after result → CarriesOut (follow_report g b) (IsFollowed told g b) before after result
+carried_listed told f g a b before after result folder list carried =
+    subst (λ x. CarriesOut (follow_report x b) (IsFollowed told x b) before after result) folder
+    (subst (λ x. CarriesOut (follow_report f x) (IsFollowed told f x) before after result) list carried)
+
+-- of an equal folder, an equal moment and an equal file
+pub one_predicted : (told : Option Contents) (zone : ZoneWord) (moment : Option ℕ) (now : ℕ) (f g : List ℕ) (m : ℕ) (a b : List ℕ) (before after : Outside) (result : Status) → f ≡ g → m ≡ unwrap_or moment now → a ≡ b →
+    CarriesOutOne (IsPredictReport f zone m a) (IsPredictInput f zone a) before after result →
+    CarriesOutOne (IsAsked (Predict g zone moment b) now) (Reads (Some (Predict g zone moment b)) told) before after result
+one_predicted told zone moment now f g m a b before after result folder at file one =
+    subst (λ x. CarriesOutOne (IsPredictReport x zone (unwrap_or moment now) b) (IsPredictInput x zone b) before after result) folder
+    (subst (λ x. CarriesOutOne (IsPredictReport f zone (unwrap_or moment now) x) (IsPredictInput f zone x) before after result) file
+    (subst (λ x. CarriesOutOne (IsPredictReport f zone x a) (IsPredictInput f zone a) before after result) at one))
 
 -- ---- what was carried out is told
 pub tells_asked : (asked : Request) (found : Option Request) (now : ℕ) (reads : List ℕ → Type 0) (before after : Outside) (result : Status) → Some asked ≡ found →

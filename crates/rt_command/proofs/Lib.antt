@@ -15,5 +15,4 @@ pub mod Encodings
 pub mod RowByRow
 pub mod OneFile
 pub mod Listed
-pub mod Checked
 pub mod Asked

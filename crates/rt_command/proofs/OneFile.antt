@@ -1,9 +1,8 @@
 -- The report of `check` on one file is that of its snapshot by itself.
-use Rattle.std.proofs.Common.{◌≡◌, ℕ, ◌<◌, Bool, true, false, ◌||◌, List, [], ◌∷◌, ◌++◌, map, length, refl, sym, ◌∙◌, ap, subst, arith, append-nil, Some, None, if◌then◌else◌, Result, Ok, Err}
+use Rattle.std.proofs.Common.{◌≡◌, ℕ, zero, suc, ◌<◌, Bool, true, false, cond, ◌||◌, List, [], ◌∷◌, ◌++◌, map, length, refl, sym, ◌∙◌, ap, subst, arith, append-nil, Some, None, if◌then◌else◌, Result, Ok, Err}
 use Rattle.std.specs.declared.option.Option.{Option}
 use Rattle.std.specs.FinMap.{get}
 use Rattle.std.specs.List.{flat_map, list_any}
-use Rattle.std.proofs.lemmas.List.{length-map}
 use Rattle.rt_outside.specs.Store.{Contents}
 use Rattle.feed_values.specs.Snapshot.{entities_of, entity_of, entity_payloads}
 use Rattle.feed_values.proofs.SnapshotFields.{snapshot_is_its_fields}
@@ -16,7 +15,7 @@ use Rattle.timetable.specs.Timetables.{Tables}
 use Rattle.rule_core.specs.Found.{Found}
 use Rattle.rule_core.specs.History.{Snapshot, feed_limit, feed_limit-is}
 use Rattle.rule_core.specs.Findings.{findings}
-use Rattle.rule_core.specs.Standing.{Standing, Spot}
+use Rattle.rule_core.specs.Standing.{Standing, Spot, stands_after}
 use Rattle.engine_laws.specs.Computed.{standing, standings, delta_after, since_of}
 use Rattle.engine_laws.specs.Delta.{Delta}
 use Rattle.engine_laws.proofs.Computed.{first_is_new}
@@ -39,13 +38,12 @@ same_report r s a b c =
     ∙ ap (λ x. let q : Report = record { text = s.text; errors = s.errors; status = x } in q) c
 
 -- ---- findings that have stood since the first snapshot
-first_since : (b : Bool) → (if b then 0 else 0) ≡ 0
-first_since true = refl
-first_since false = refl
+first_since : (after : ℕ → Bool) → since_of after (suc zero) ≡ zero
+first_since after = elim (after zero) as (λ b. cond {A = ℕ} b zero zero ≡ zero) [ true ↦ refl | false ↦ refl ]
 
 module _ (t : Option Tables) (s : Snapshot) where
   stands_first : (f : Found) → standing t (s ∷ []) f ≡ (let x : Standing = record { finding = f; since = 0 } in x)
-  stands_first f = ap (λ n. let x : Standing = record { finding = f; since = n } in x) (first_since _)
+  stands_first f = ap (λ n. let x : Standing = record { finding = f; since = n } in x) (first_since (stands_after t (s ∷ []) f))
 
   texts : (fs : List Found) → flat_map (standing_text line.Finding) (map (standing t (s ∷ [])) fs) ≡ flat_map finding_text fs
   texts [] = refl
@@ -78,7 +76,11 @@ module _ (t : Option Tables) (moment : ℕ) (file bytes : List ℕ) where
   feed_fits = subst (λ n. 0 < n) (sym feed_limit-is) (omega arith)
 
   as_many : length (entity_payloads bytes) ≡ length (entities_of bytes)
-  as_many = sym (ap length (snapshot_is_its_fields.entities bytes) ∙ length-map entity_of (entity_payloads bytes))
+  as_many = sym (ap length (snapshot_is_its_fields.entities bytes) ∙ longs (entity_payloads bytes))
+    where
+      longs : (ps : List (List ℕ)) → length (map entity_of ps) ≡ length ps
+      longs [] = refl
+      longs (p ∷ ps) = ap suc (longs ps)
 
   counts : (e x y z n : ℕ) → e ≡ n → x ≡ n → y ≡ n → z ≡ n → (os : List Standing) (cs : List Spot) →
       accepted_text 0 row (record { snapshot = 0; entities = e; opened = os; closed = cs; tested = x; paired = y; bounded = z }) ≡ first_text moment n
@@ -86,8 +88,9 @@ module _ (t : Option Tables) (moment : ℕ) (file bytes : List ℕ) where
 
   line_is : accepted_text 0 row (delta_after t [] first) ≡ first_text moment (length (entities_of bytes))
   line_is =
-      counts _ _ _ _ (length (entities_of bytes)) as_many (first_is_new.all_tested first feed_fits ∙ as_many) (first_is_new.all_paired first feed_fits ∙ as_many)
-      (first_is_new.all_bounded t first feed_fits ∙ as_many) _ _
+      let d : Delta = delta_after t [] first in
+      counts d.entities d.tested d.paired d.bounded (length (entities_of bytes)) as_many (first_is_new.all_tested first feed_fits ∙ as_many) (first_is_new.all_paired first feed_fits ∙ as_many)
+      (first_is_new.all_bounded t first feed_fits ∙ as_many) d.opened d.closed
 
   accepted_is : checked t (row_outcome Counts t [] 0 row (Ok bytes)) ≡ accepted_report t moment bytes
   unfolding snapshot_findings

@@ -1,10 +1,8 @@
 -- What a request names, and words behind options.
-use Rattle.std.proofs.Common.{◌≡◌, ℕ, suc, ◌≤◌, ◌<◌, ◌-◌, get_or, ◌∙◌, List, [], ◌∷◌, Bool, true, false, ◌&&◌, nat_le, length, take, drop, map, String, string_bytes, codes, ap, refl, sym, subst, Some, None, option_map, is_none, if◌then◌else◌, arith}
+use Rattle.std.proofs.Common.{◌≡◌, ℕ, ◌≤◌, ◌<◌, ◌-◌, get_or, ◌∙◌, List, [], ◌∷◌, Bool, true, false, ◌&&◌, length, take, drop, map, String, string_bytes, codes, ap, refl, sym, subst, Some, None, option_map, is_none, if◌then◌else◌, arith}
 use Rattle.std.specs.declared.option.Option.{Option}
 use Rattle.std.specs.declared.alloc.Global.{Global}
-use Rattle.std.specs.List.{list_all}
 use Rattle.std.specs.Option.{option_and_then}
-use Rattle.std.proofs.lemmas.Bool.Decides.{nat_tests}
 use Rattle.std.proofs.lemmas.List.{take_all}
 use Rattle.std.specs.Str.{bytes_eq}
 use Rattle.feed_list.specs.Values.{is_path, path_of}
@@ -14,78 +12,73 @@ use Rattle.rt_command.specs.declared.request.Request.{Request}
 use Rattle.rt_command.specs.declared.request.Request.TheVariants.{Check, Follow, Predict, Show, Encode}
 use Rattle.rt_command.specs.declared.options.Options.{Options}
 use Rattle.rt_command.specs.declared.zone_word.ZoneWord.{ZoneWord}
-use Rattle.rt_command.specs.Words.{request, no_options, are_files, check_of, follow_of, predict_of, predicted, one_file, asked_of, options_of, file_of, with_option, HasFeeds}
+use Rattle.rt_command.specs.Words.{request, no_options, check_of, follow_of, predict_of, predicted, one_file, asked_of, options_of, file_of, with_option, NamesOne}
 
--- ---- a request has a feed for each of its files
-either_of : (b : Bool) (so other : Option Request) (asked : Request) → (Some asked ≡ so → HasFeeds asked) → (Some asked ≡ other → HasFeeds asked)
-    → Some asked ≡ (if b then so else other) → HasFeeds asked
+-- ---- a request names one file
+either_of : (b : Bool) (so other : Option Request) (asked : Request) → (Some asked ≡ so → NamesOne asked) → (Some asked ≡ other → NamesOne asked)
+    → Some asked ≡ (if b then so else other) → NamesOne asked
 either_of true so other asked one two e = one e
 either_of false so other asked one two e = two e
 
-none : (asked : Request) → Some asked ≡ None → HasFeeds asked
+none : (asked : Request) → Some asked ≡ None → NamesOne asked
 none asked e = absurd (cc e)
 
 some_same : (a b : Request) → Some a ≡ Some b → b ≡ a
 some_same a b e = cc e
 
-of_same : (a b : Request) → HasFeeds b → Some a ≡ Some b → HasFeeds a
-of_same a b has e = subst HasFeeds (some_same a b e) has
+of_same : (a b : Request) → NamesOne b → Some a ≡ Some b → NamesOne a
+of_same a b has e = subst NamesOne (some_same a b e) has
 
-after_option : (options : Option Options) (found : Options → Option Request) (asked : Request) → ((more : Options) → Some asked ≡ found more → HasFeeds asked) →
-    Some asked ≡ option_and_then found options → HasFeeds asked
+after_option : (options : Option Options) (found : Options → Option Request) (asked : Request) → ((more : Options) → Some asked ≡ found more → NamesOne asked) →
+    Some asked ≡ option_and_then found options → NamesOne asked
 after_option None found asked has e = absurd (cc e)
 after_option (Some more) found asked has e = has more e
 
-few : (n : ℕ) (a c b : Bool) → (a && c && (nat_le 1 n && nat_le n 16 && b)) ≡ true → n ≤ 16
-few n a c b h = grind (arith, nat_tests)
-
-check_has : (options : Options) (files : List (List ℕ)) (asked : Request) → Some asked ≡ check_of options files → HasFeeds asked
-check_has options files asked e = at (is_none options.list && is_none options.zone && are_files files) refl e
-  where
-    at : (b : Bool) → (is_none options.list && is_none options.zone && are_files files) ≡ b → Some asked ≡ (if b then Some (Check options.folder options.moment files) else None) → HasFeeds asked
-    at true is e = of_same asked (Check options.folder options.moment files) (few (length files) _ _ _ is) e
-    at false is e = none asked e
-
-mapped_has : (ask : List ℕ → Request) → ((text : List ℕ) → HasFeeds (ask text)) → (text : Option (List ℕ)) (asked : Request) → Some asked ≡ option_map ask text → HasFeeds asked
+mapped_has : (ask : List ℕ → Request) → ((text : List ℕ) → NamesOne (ask text)) → (text : Option (List ℕ)) (asked : Request) → Some asked ≡ option_map ask text → NamesOne asked
 mapped_has ask has None asked e = none asked e
 mapped_has ask has (Some text) asked e = of_same asked (ask text) (has text) e
 
-follow_has : (options : Options) (files : List (List ℕ)) (asked : Request) → Some asked ≡ follow_of options files → HasFeeds asked
+check_has : (options : Options) (files : List (List ℕ)) (asked : Request) → Some asked ≡ check_of options files → NamesOne asked
+check_has options files asked e =
+    either_of (is_none options.list && is_none options.zone) (option_map (λ file. Check options.folder options.moment (file ∷ [])) (one_file files)) None asked
+    (mapped_has (λ file. Check options.folder options.moment (file ∷ [])) (λ file. refl) (one_file files) asked) (none asked) e
+
+follow_has : (options : Options) (files : List (List ℕ)) (asked : Request) → Some asked ≡ follow_of options files → NamesOne asked
 follow_has options [] asked e = either_of (is_none options.moment && is_none options.zone) (option_map (Follow options.folder) options.list) None asked (mapped_has (Follow options.folder) (λ text. tt) options.list asked) (none asked) e
 follow_has options (file ∷ files) asked e = none asked e
 
-predicted_has : (folder : Option (List ℕ)) (zone : Option ZoneWord) (moment : Option ℕ) (file : List ℕ) (asked : Request) → Some asked ≡ predicted folder zone moment file → HasFeeds asked
+predicted_has : (folder : Option (List ℕ)) (zone : Option ZoneWord) (moment : Option ℕ) (file : List ℕ) (asked : Request) → Some asked ≡ predicted folder zone moment file → NamesOne asked
 predicted_has None zone moment file asked e = none asked e
 predicted_has (Some folder) None moment file asked e = none asked e
 predicted_has (Some folder) (Some zone) moment file asked e = of_same asked (Predict folder zone moment file) tt e
 
-of_file_has : (file : Option (List ℕ)) (folder : Option (List ℕ)) (zone : Option ZoneWord) (moment : Option ℕ) (asked : Request) → Some asked ≡ option_and_then (predicted folder zone moment) file → HasFeeds asked
+of_file_has : (file : Option (List ℕ)) (folder : Option (List ℕ)) (zone : Option ZoneWord) (moment : Option ℕ) (asked : Request) → Some asked ≡ option_and_then (predicted folder zone moment) file → NamesOne asked
 of_file_has None folder zone moment asked e = none asked e
 of_file_has (Some file) folder zone moment asked e = predicted_has folder zone moment file asked e
 
-predict_has : (options : Options) (files : List (List ℕ)) (asked : Request) → Some asked ≡ predict_of options files → HasFeeds asked
+predict_has : (options : Options) (files : List (List ℕ)) (asked : Request) → Some asked ≡ predict_of options files → NamesOne asked
 predict_has options files asked e =
     either_of (is_none options.list) (option_and_then (predicted options.folder options.zone options.moment) (one_file files)) None asked
     (of_file_has (one_file files) options.folder options.zone options.moment asked) (none asked) e
 
-asked_has : (name : Command) (options : Options) (files : List (List ℕ)) (asked : Request) → Some asked ≡ asked_of name options files → HasFeeds asked
+asked_has : (name : Command) (options : Options) (files : List (List ℕ)) (asked : Request) → Some asked ≡ asked_of name options files → NamesOne asked
 asked_has command.Check options files asked e = check_has options files asked e
 asked_has command.Follow options files asked e = follow_has options files asked e
 asked_has command.Predict options files asked e = predict_has options files asked e
 
-options_has : (name : Command) (options : Options) (words : List (List ℕ)) (asked : Request) → Some asked ≡ options_of name options words → HasFeeds asked
+options_has : (name : Command) (options : Options) (words : List (List ℕ)) (asked : Request) → Some asked ≡ options_of name options words → NamesOne asked
 options_has name options [] asked e = asked_has name options [] asked e
 options_has name options (word ∷ []) asked e = asked_has name options (word ∷ []) asked e
 options_has name options (word ∷ value ∷ words) asked e =
     either_of (is_path word) (asked_of name options (word ∷ value ∷ words)) _ asked (asked_has name options (word ∷ value ∷ words) asked)
     (after_option (with_option options word value) (λ more. options_of name more words) asked (λ more. options_has name more words asked)) e
 
-file_has : (ask : List ℕ → Request) → ((file : List ℕ) → HasFeeds (ask file)) → (words : List (List ℕ)) (asked : Request) → Some asked ≡ file_of ask words → HasFeeds asked
+file_has : (ask : List ℕ → Request) → ((file : List ℕ) → NamesOne (ask file)) → (words : List (List ℕ)) (asked : Request) → Some asked ≡ file_of ask words → NamesOne asked
 file_has ask has words asked e = mapped_has ask has (one_file words) asked e
 
-pub request_has_feeds : (words : List (List ℕ)) (asked : Request) → Some asked ≡ request words → HasFeeds asked
-request_has_feeds [] asked e = none asked e
-request_has_feeds (name ∷ words) asked e =
+pub request_names_one : (words : List (List ℕ)) (asked : Request) → Some asked ≡ request words → NamesOne asked
+request_names_one [] asked e = none asked e
+request_names_one (name ∷ words) asked e =
     either_of (bytes_eq name (codes "check")) (options_of command.Check no_options words) _ asked (options_has command.Check no_options words asked)
     (either_of (bytes_eq name (codes "follow")) (options_of command.Follow no_options words) _ asked (options_has command.Follow no_options words asked)
     (either_of (bytes_eq name (codes "predict")) (options_of command.Predict no_options words) _ asked (options_has command.Predict no_options words asked)
@@ -127,23 +120,6 @@ next_option name (x ∷ y ∷ words) word value options with found two w v path 
     left : (b : Bool) (so other : Option Request) → b ≡ false → (if b then so else other) ≡ other
     left false so other h = refl
     left true so other h = absurd (cc h)
-
--- all of some words are paths where all of their texts are
-pub all_texts : (words : List (String Global)) → list_all (λ word. is_path (string_bytes word)) words ≡ list_all is_path (map string_bytes words)
-all_texts [] = refl
-all_texts (word ∷ words) = ap (λ b. is_path (string_bytes word) && b) (all_texts words)
-
--- words of which there are 1 to 16
-pub files_are : (words : List (String Global)) → 1 ≤ length words → length words ≤ 16 → list_all (λ word. is_path (string_bytes word)) words ≡ are_files (map string_bytes words)
-files_are words some most =
-    all_texts words ∙ sym (at (length (map (string_bytes {Z = Global}) words)) _ (subst (λ n. 1 ≤ n) (sym (longs words)) some) (subst (λ n. n ≤ 16) (sym (longs words)) most))
-  where
-    at : (n : ℕ) (b : Bool) → 1 ≤ n → n ≤ 16 → (nat_le 1 n && nat_le n 16 && b) ≡ b
-    at n b l u = grind (arith, nat_tests)
-
-    longs : (words : List (String Global)) → length (map (string_bytes {Z = Global}) words) ≡ length words
-    longs [] = refl
-    longs (word ∷ words) = ap suc (longs words)
 
 -- the one name of a list
 pub one_name : (names list : List (List ℕ)) (first name : List ℕ) → length names ≡ 1 → list ≡ names → first ≡ get_or list 0 first → name ≡ first → name ∷ [] ≡ names

@@ -18,6 +18,8 @@ use Rattle.engine_laws.specs.Delta.{Delta, IsDelta}
 use Rattle.engine_laws.proofs.Computed.{delta_is_computed}
 use Rattle.follow_engine.specs.declared.engine.Engine.{Engine}
 use Rattle.follow_engine.specs.Engines.{engine_data}
+use Rattle.rt_command.specs.declared.fault.Fault.{Fault}
+use Rattle.rt_command.specs.declared.fault.Fault.TheVariants as fault
 use Rattle.rt_command.specs.declared.lines.Lines.{Lines}
 use Rattle.rt_command.specs.declared.row.RowEnd.{RowEnd}
 use Rattle.rt_command.specs.declared.telling.Telling.{Telling}
@@ -39,7 +41,7 @@ then-assoc a b c =
     ap (λ t. let o : Outcome = record { text = t; after = c.after; error = (a.error || b.error) || c.error } in o) (append_assoc a.text b.text c.text)
     ∙ ap (λ f. let o : Outcome = record { text = a.text ++ (b.text ++ c.text); after = c.after; error = f } in o) (or-assoc a.error b.error c.error)
 
-then-none : (o : Outcome) → then o (no_rows o.after) ≡ o
+pub then-none : (o : Outcome) → then o (no_rows o.after) ≡ o
 then-none o =
     ap (λ t. let p : Outcome = record { text = t; after = o.after; error = o.error || false } in p) (append-nil o.text)
     ∙ ap (λ f. let p : Outcome = record { text = o.text; after = o.after; error = f } in p) (or-false o.error)
@@ -202,3 +204,9 @@ got_within (r ∷ rows) (suc i) row e = more (got_within rows i row e)
 -- a count that rose after it had not fallen rose
 pub rose_later : (old mid new : ℕ) → old ≤ mid → Rose mid new → Rose old new
 rose_later old mid new later rose = omega arith
+
+pub not_read : (why : Fault) → why ≡ fault.Write → why ≡ fault.Read → ⊥
+not_read why w r = differ (sym w ∙ r)
+  where
+    differ : fault.Write ≡ fault.Read → ⊥
+    differ e = cc

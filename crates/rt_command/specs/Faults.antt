@@ -67,10 +67,10 @@ Reads (Some (Predict folder zone now file)) told name = (Contains (file ∷ []) 
 Reads (Some (Show file)) told name = Contains (file ∷ []) name
 Reads (Some (Encode file)) told name = Contains (file ∷ []) name
 
--- the requests that judge no snapshot
+-- the requests that no engine serves
 abbrev pub IsWithoutEngine : Option Request → Type 0
 IsWithoutEngine None = ⊤
-IsWithoutEngine (Some (Check folder now files)) = ⊥
+IsWithoutEngine (Some (Check folder now files)) = ⊤
 IsWithoutEngine (Some (Follow folder list)) = ⊥
 IsWithoutEngine (Some (Predict folder zone now file)) = ⊤
 IsWithoutEngine (Some (Show file)) = ⊤

@@ -1,6 +1,5 @@
 -- What the words of a command line ask for. (This profile.)
-use Rattle.std.specs.Prelude.{⊤, ◌≤◌, ℕ, List, [], ◌∷◌, length, Bool, ◌&&◌, nat_le, if◌then◌else◌, codes, Option, Some, None, is_none, option_map, option_and_then}
-use Rattle.std.specs.List.{list_all}
+use Rattle.std.specs.Prelude.{⊤, ◌≡◌, ℕ, List, [], ◌∷◌, length, Bool, ◌&&◌, if◌then◌else◌, codes, Option, Some, None, is_none, option_map, option_and_then}
 use Rattle.std.specs.Str.{bytes_eq}
 use Rattle.feed_list.specs.Values.{is_path, path_of, number_of}
 use Rattle.rt_command.specs.declared.command.Command.{Command}
@@ -42,22 +41,20 @@ with_option options name value =
     else option_and_then (with_text options name) (path_of value)
 
 -- ---- the request of a command with these options and the words behind them
--- 1 to 16 files, one for each feed
-abbrev pub are_files : List (List ℕ) → Bool
-are_files files = nat_le 1 (length files) && nat_le (length files) 16 && list_all is_path files
-
-abbrev pub check_of : Options → List (List ℕ) → Option Request
-check_of options files = if is_none options.list && is_none options.zone && are_files files then Some (Check options.folder options.moment files) else None
-
-abbrev pub follow_of : Options → List (List ℕ) → Option Request
-follow_of options [] = if is_none options.moment && is_none options.zone then option_map (Follow options.folder) options.list else None
-follow_of options (file ∷ files) = None
-
 -- the file of words that are one file
 abbrev pub one_file : List (List ℕ) → Option (List ℕ)
 one_file [] = None
 one_file (file ∷ []) = path_of file
 one_file (file ∷ more ∷ words) = None
+
+-- so far `check` takes one file
+abbrev pub check_of : Options → List (List ℕ) → Option Request
+check_of options files =
+    if is_none options.list && is_none options.zone then option_map (λ file. Check options.folder options.moment (file ∷ [])) (one_file files) else None
+
+abbrev pub follow_of : Options → List (List ℕ) → Option Request
+follow_of options [] = if is_none options.moment && is_none options.zone then option_map (Follow options.folder) options.list else None
+follow_of options (file ∷ files) = None
 
 abbrev pub predicted : Option (List ℕ) → Option ZoneWord → Option ℕ → List ℕ → Option Request
 predicted folder zone moment file = option_and_then (λ f. option_map (λ z. Predict f z moment file) zone) folder
@@ -93,10 +90,10 @@ request (name ∷ words) =
     else (if bytes_eq name (codes "show") then file_of Show words
     else (if bytes_eq name (codes "encode") then file_of Encode words else None))))
 
--- there is a feed for each file of `check`
-abbrev pub HasFeeds : Request → Type 0
-HasFeeds (Check folder now files) = length files ≤ 16
-HasFeeds (Follow folder list) = ⊤
-HasFeeds (Predict folder zone now file) = ⊤
-HasFeeds (Show file) = ⊤
-HasFeeds (Encode file) = ⊤
+-- so far `check` takes one file
+abbrev pub NamesOne : Request → Type 0
+NamesOne (Check folder now files) = length files ≡ 1
+NamesOne (Follow folder list) = ⊤
+NamesOne (Predict folder zone now file) = ⊤
+NamesOne (Show file) = ⊤
+NamesOne (Encode file) = ⊤

@@ -15,20 +15,21 @@
 //! - `say` writes to the error stream, `refusal` why a timetable isn't loaded, and `list_fault` why a list isn't read.
 //! - `row` puts the snapshot of one row into the engine that follows feeds, and `rows` those of all rows; `telling` is what is
 //!   told of each.
-//! - `report_file` writes the report on one file, which is all of `show`. `check`, with `check_feeds` for several files,
-//!   `follow` and `encode` carry out their commands, and `run` the request of the words.
+//! - `report_file` writes the report on one file, which is all of `show`. `check`, `follow`, `predict`
+//!   and `encode` carry out their commands, and `run` the request of the words.
 //! - `main` joins `run` to the system: its files, its streams, its clock and its words.
 #![tactic(auto)]
 
 ghost use Rattle.std.specs.Prelude.{◌≡◌};
 
 mod check;
-mod check_feeds;
 mod command;
 mod encode;
 mod fault;
 mod findings;
 mod follow;
+#[cfg(test)]
+mod follow_tests;
 #[cfg(test)]
 mod form_tests;
 mod input_fault;

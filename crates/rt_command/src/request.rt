@@ -6,8 +6,7 @@ use feed_values::{Items, Text};
 /// What the words of a command line ask for.
 #[derive(Debug, Drop)]
 pub enum Request {
-    /// To check the snapshots in these files, of which there are 1 to 16, together: each is one of a feed of its own, and
-    /// feeds count from 0 in the order of the files. They are judged on the timetable in the folder.
+    /// To check the snapshots in these files, one feed each, on the timetable in the folder.
     ///
     /// `now` is the moment that the snapshots are judged at, as POSIX time in seconds, in place of
     /// the clock's.

@@ -2,7 +2,7 @@
 ghost use Rattle.std.specs.Prelude.{◌≡◌, ◌⊎◌, Some, None, map, string_bytes};
 ghost use Rattle.rt_outside.specs.Causes.{Rose};
 ghost use Rattle.rt_outside.specs.Store.{contents_told};
-ghost use Rattle.rt_command.specs.Words.{request, HasFeeds};
+ghost use Rattle.rt_command.specs.Words.{request, NamesOne};
 ghost use Rattle.rt_command.specs.Predicted.{CarriesOutOne};
 ghost use Rattle.rt_command.specs.Reported.{IsAsked, IsReport, TellsReport};
 ghost use Rattle.rt_command.specs.Outside.{outside};
@@ -65,7 +65,7 @@ pub fn run<F: Files, S: Sink, E: Sink, D: Ledger, T: Ledger>(
     ensures told { TellsFault (Reads (request (map string_bytes words.now)) (contents_told (F.state files.old).told)) (F.state files.new).asked
         (E.state err.old) (E.state err.new) result }
 
-    // The counters stay where no snapshot is judged.
+    // The counters stay where no feed is followed.
     ensures decodes { IsWithoutEngine (request (map string_bytes words.now)) → decodes.new ≡ decodes.old }
     ensures tests { IsWithoutEngine (request (map string_bytes words.now)) → tests.new ≡ tests.old }
 {
@@ -87,7 +87,7 @@ fn carry_out<F: Files, S: Sink, E: Sink, D: Ledger, T: Ledger>(
     decodes: &mut Steps<D>,
     tests: &mut Steps<T>,
 ) -> Status
-    requires { HasFeeds request.now }
+    requires { NamesOne request.now }
     ensures carried { CarriesOutOne (IsAsked request.now now) (Reads (Some request.now) (contents_told (F.state files.old).told))
         (outside (F.state files.old) (S.state out.old) (E.state err.old))
         (outside (F.state files.new) (S.state out.new) (E.state err.new)) result }
@@ -102,9 +102,7 @@ fn carry_out<F: Files, S: Sink, E: Sink, D: Ledger, T: Ledger>(
         } => {
             let moment = moment.unwrap_or(now);
             let folder = folder.as_ref();
-            check(
-                alloc, moment, folder, names, files, out, err, decodes, tests,
-            )
+            check(alloc, moment, folder, names, files, out, err)
         }
         Request::Follow { folder, list } => {
             let folder = folder.as_ref();

@@ -358,6 +358,8 @@ f
 check
 check -f
 check f g
+check --list l f
+check --zone-rule UTC0 f
 check --now
 check --now 5
 check --now x f
@@ -388,6 +390,21 @@ show --now 5 f
 encode
 encode f g
 Encode f
+follow
+follow f
+follow --list
+follow --list l f
+follow --list l --now 5
+follow --list l --list l
+follow --list -l
+predict f
+predict --timetable t f
+predict --zone-rule UTC0 f
+predict --timetable t --zone-rule UTC0
+predict --timetable t --zone-rule UTC0 --zone-file z f
+predict --timetable t --zone-rule UTC0 --list l f
+predict --timetable t --zone-rule UTC0 f g
+trial 7
 --help
 ";
 

@@ -1,8 +1,6 @@
 //! The words of a command line.
 ghost use Rattle.std.specs.Prelude.{◌≡◌, IfOk, ◌∷◌, map, option_map, string_bytes};
-ghost use Rattle.std.specs.List.{list_all};
-ghost use Rattle.feed_list.specs.Values as values;
-ghost use Rattle.rt_command.specs.Words.{are_files, asked_of, check_of, follow_of, predict_of, predicted, one_file, options_of, file_of, request};
+ghost use Rattle.rt_command.specs.Words.{asked_of, check_of, follow_of, predict_of, predicted, one_file, options_of, file_of, request};
 ghost use Rattle.rt_command.specs.declared.request.Request.TheVariants.{Show, Encode};
 
 use crate::command::Command;
@@ -13,12 +11,9 @@ use feed_list::is_path;
 use feed_values::{Items, Text};
 use std::alloc::{AllocError, Global};
 
-/// The most feeds that there may be.
-const FEEDS: usize = 16;
-
 /// The request of the words after the program's name, or none where they give no request.
 ///
-/// So far these are `check` with 1 to 16 files, and before them `--timetable` with a folder and `--now` with a moment;
+/// So far these are `check` with one file, and before it `--timetable` with a folder and `--now` with a moment;
 /// `follow` with `--list` and a file, and `--timetable` with a folder; `predict` with one file, and before it `--timetable`
 /// with a folder, one of `--zone-rule` with a text and `--zone-file` with a file, and `--now` with a moment; and `show` and
 /// `encode`, each with one file. Options stand before the files in any order, each at most once. A number has 1 to 20 digits,
@@ -109,10 +104,14 @@ fn check_of(
 ) -> Result<Option<Request>, AllocError>
     ensures { IfOk result (λ found. found ≡ check_of options (map string_bytes files.now)) }
 {
-    if options.list.is_some() || options.zone.is_some() || !are_files(files) {
+    if options.list.is_some() || options.zone.is_some() {
         return Ok(None);
     }
-    let files = texts_of(alloc, files)?;
+    let Some(file) = file_of(alloc, files)? else {
+        return Ok(None);
+    };
+    let mut files = Items::new(alloc);
+    files.push(file)?;
     Ok(Some(Request::Check {
         folder: options.folder,
         now: options.moment,
@@ -166,33 +165,4 @@ fn predicted(
         now,
         file,
     })
-}
-
-// Whether these words are files, one for each feed.
-fn are_files(words: &[String]) -> bool
-    ensures { result ≡ are_files (map string_bytes words.now) }
-{
-    if words.is_empty() || words.len() > FEEDS {
-        return false;
-    }
-    are_paths(words)
-}
-
-fn are_paths(words: &[String]) -> bool
-    ensures { result ≡ list_all (λ word. values.is_path (string_bytes word)) words.now }
-{
-    words.iter().all(|word| is_path(word.as_str()))
-}
-
-// The list of these words.
-fn texts_of(alloc: Global, words: &[String]) -> Result<Items<Text>, AllocError>
-    ensures { IfOk result (λ texts. texts ≡ map string_bytes words.now) }
-{
-    let mut texts = Items::new(alloc);
-    for word in words {
-        let mut text = Text::new(alloc);
-        text.push(word.as_str())?;
-        texts.push(text)?;
-    }
-    Ok(texts)
 }

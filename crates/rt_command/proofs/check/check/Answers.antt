@@ -12,20 +12,20 @@ use Rattle.rt_command.proofs.check.check.Goals as goal
 pub returns-in-None : goal.returns-in-None
 returns-in-None g c =
     let names = c.args.names.now in
-    carried_folder (λ f. check_report f c.args.moment names) (λ f. IsInput f names) None (option_copied c.args.folder) _ _ c.check_files.result (ap option_copied (sym c.in-None.is))
+    carried_folder (λ f. check_report f c.args.moment names) (λ f. IsInput f names) None (option_copied c.args.folder) _ _ c.check_first.result (ap option_copied (sym c.in-None.is))
     (carried_within (files_report (tables_of c.absent-timetable.result) c.args.moment names) (check_report None c.args.moment names) (Contains names)
-    (IsInput None names) _ _ _ _ c.check_files.result (λ name is. inl is) _ (λ rose. rose) refl
-    (no_timetable (λ t. files_report t c.args.moment names) _ (tables_of c.absent-timetable.result) (ap (λ b. cond b (Some (tables_in c.absent-timetable.result)) None) c.absent-timetable.ensures.present)) c.check_files.ensures)
+    (IsInput None names) _ _ _ _ c.check_first.result (λ name is. inl is) _ (λ rose. rose) refl
+    (no_timetable (λ t. files_report t c.args.moment names) _ (tables_of c.absent-timetable.result) (ap (λ b. cond b (Some (tables_in c.absent-timetable.result)) None) c.absent-timetable.ensures.present)) c.check_first.ensures)
 
 pub returns-in-Ok : goal.returns-in-Ok
 returns-in-Ok g c =
     let names = c.args.names.now in
-    carried_folder (λ f. check_report f c.args.moment names) (λ f. IsInput f names) (Some c.as_str-folder.result.now) (option_copied c.args.folder) _ _ c.check_files-in-Ok.result
+    carried_folder (λ f. check_report f c.args.moment names) (λ f. IsInput f names) (Some c.as_str-folder.result.now) (option_copied c.args.folder) _ _ c.check_first-in-Ok.result
     (ap Some c.as_str-folder.ensures ∙ ap option_copied (sym c.in-Some.is))
     (carried_within (files_report (tables_of c.in-Ok.timetable) c.args.moment names) (check_report (Some c.as_str-folder.result.now) c.args.moment names)
-    (Contains names) (IsInput (Some c.as_str-folder.result.now) names) _ _ _ _ c.check_files-in-Ok.result (λ name is. inl is) _
+    (Contains names) (IsInput (Some c.as_str-folder.result.now) names) _ _ _ _ c.check_first-in-Ok.result (λ name is. inl is) _
     (rose_before _ _ _ c.load.ensures.later) c.load.ensures.contents
-    (accepted_timetable (λ t. files_report t c.args.moment names) _ c.as_str-folder.result.now (tables_of c.in-Ok.timetable) (tables_in c.in-Ok.timetable) (ap (λ b. cond b (Some (tables_in c.in-Ok.timetable)) None) c.in-Ok.ensures.present) c.in-Ok.ensures.ok) c.check_files-in-Ok.ensures)
+    (accepted_timetable (λ t. files_report t c.args.moment names) _ c.as_str-folder.result.now (tables_of c.in-Ok.timetable) (tables_in c.in-Ok.timetable) (ap (λ b. cond b (Some (tables_in c.in-Ok.timetable)) None) c.in-Ok.ensures.present) c.in-Ok.ensures.ok) c.check_first-in-Ok.ensures)
 
 pub returns-in-Err : goal.returns-in-Err
 returns-in-Err g c =

@@ -1,15 +1,20 @@
-use Rattle.std.proofs.Common.{refl, ◌∷◌, [], unwrap_or, subst}
-use Rattle.rt_outside.specs.Store.{contents_told}
-use Rattle.rt_command.specs.Faults.{IsFollowed}
-use Rattle.rt_command.specs.Predicted.{CarriesOutOne, IsPredictReport, IsPredictInput}
-use Rattle.rt_command.specs.Report.{shown_report, file_report, check_report, encode_report, follow_report}
-use Rattle.rt_command.proofs.Asked.{one_report}
-use Rattle.rt_command.proofs.Carried.{carried_at, carried_folder, carried_name}
+use Rattle.std.proofs.Common.{refl}
+use Rattle.rt_command.specs.Report.{shown_report, file_report, encode_report}
+use Rattle.rt_command.proofs.Asked.{one_report, carried_listed, one_predicted}
+use Rattle.rt_command.proofs.Carried.{carried_at, carried_name}
 use Rattle.rt_command.proofs.run.carry_out.Goals as goal
 
 pub returns-in-Check-clause-carried : goal.returns-in-Check-clause-carried
 returns-in-Check-clause-carried g c =
     rw c.in-Check.is (one_report _ _ _ _ c.check.result (carried_at _ _ c.unwrap_or-moment.result _ _ _ _ _ c.check.result c.as_ref-folder.ensures.value c.unwrap_or-moment.ensures refl c.check.ensures))
+
+pub returns-in-Follow-clause-carried : goal.returns-in-Follow-clause-carried
+returns-in-Follow-clause-carried g c =
+    rw c.in-Follow.is (one_report _ _ _ _ c.follow.result (carried_listed _ _ _ _ _ _ _ c.follow.result c.as_ref-folder-in-Follow.ensures.value c.as_str.ensures c.follow.ensures))
+
+pub returns-in-Predict-clause-carried : goal.returns-in-Predict-clause-carried
+returns-in-Predict-clause-carried g c =
+    rw c.in-Predict.is (one_predicted _ _ _ _ _ _ _ _ _ _ _ c.predict.result c.as_str-in-Predict.ensures c.unwrap_or-moment-in-Predict.ensures c.as_str-in-Predict-2.ensures c.predict.ensures)
 
 pub returns-in-Show-clause-carried : goal.returns-in-Show-clause-carried
 returns-in-Show-clause-carried g c =

@@ -4,7 +4,7 @@ use Rattle.rt_command.specs.declared.status.Status.TheVariants as answer
 use Rattle.rt_command.specs.Faults.{says_memory, says_usage, memory_text, Reads, TellsFault}
 use Rattle.rt_command.specs.Reported.{IsReport}
 use Rattle.rt_command.proofs.Asked.{tells_asked, tells_nothing_more, tells_usage, memory_reported}
-use Rattle.rt_command.proofs.Requests.{request_has_feeds}
+use Rattle.rt_command.proofs.Requests.{request_names_one}
 use Rattle.rt_command.proofs.Told.{tells}
 use Rattle.rt_command.proofs.run.run.Goals as goal
 
@@ -29,4 +29,4 @@ returns-in-Ok-Some-clause-told g c =
     (rw c.in-Ok-Some.field-0-is at c.in-Ok-Some.ensures) c.carry_out.ensures.carried.carried.told
 
 pub carry_out-requires : goal.carry_out-requires
-carry_out-requires g c = request_has_feeds (map string_bytes c.args.words.now) _ (rw c.in-Ok-Some.field-0-is at c.in-Ok-Some.ensures)
+carry_out-requires g c = request_names_one (map string_bytes c.args.words.now) _ (rw c.in-Ok-Some.field-0-is at c.in-Ok-Some.ensures)
