@@ -1,4 +1,5 @@
 use Rattle.std.proofs.Common.{refl}
+use Rattle.rt_outside.specs.Store.{contents_told}
 use Rattle.rt_command.specs.Report.{shown_report, file_report, encode_report}
 use Rattle.rt_command.proofs.Asked.{one_report, carried_listed, one_predicted}
 use Rattle.rt_command.proofs.Carried.{carried_at, carried_name}
@@ -14,7 +15,7 @@ returns-in-Follow-clause-carried g c =
 
 pub returns-in-Predict-clause-carried : goal.returns-in-Predict-clause-carried
 returns-in-Predict-clause-carried g c =
-    rw c.in-Predict.is (one_predicted _ _ _ _ _ _ _ _ _ _ _ c.predict.result c.as_str-in-Predict.ensures c.unwrap_or-moment-in-Predict.ensures c.as_str-in-Predict-2.ensures c.predict.ensures)
+    rw c.in-Predict.is (one_predicted (contents_told (g.F.Files.state c.args.files.now).told) _ c.in-Predict.moment c.args.now _ _ _ _ _ _ _ c.predict.result c.as_str-in-Predict.ensures c.unwrap_or-moment-in-Predict.ensures c.as_str-in-Predict-2.ensures c.predict.ensures)
 
 pub returns-in-Show-clause-carried : goal.returns-in-Show-clause-carried
 returns-in-Show-clause-carried g c =

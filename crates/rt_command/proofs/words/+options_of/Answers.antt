@@ -2,7 +2,7 @@ use Rattle.std.proofs.Common.{◌∙◌, sym, ap, string_bytes, Some}
 use Rattle.std.proofs.lemmas.Result.{IfOk-weaker}
 use Rattle.feed_list.specs.Values.{is_path}
 use Rattle.rt_command.specs.Words.{with_option}
-use Rattle.rt_command.proofs.Requests.{next_option}
+use Rattle.rt_command.proofs.Requests.{next_option, no_option}
 use Rattle.rt_command.proofs.words.+options_of.Goals as goal
 
 pub returns-in-Some : goal.returns-in-Some
@@ -14,3 +14,6 @@ returns-in-Some t c = IfOk-weaker c.options_of.result _ _
     ∙ ap (λ name. with_option c.args.options name c.as_str-in-len2-up-2.result.now) c.as_str-in-len2-up.ensures.value
     ∙ ap (λ value. with_option c.args.options (string_bytes c.name-item.result) value) c.as_str-in-len2-up-2.ensures.value))
     c.options_of.ensures
+
+pub returns-in_default : goal.returns-in_default
+returns-in_default t c = IfOk-weaker c.asked_of.result _ _ (λ found. no_option c.args.command c.args.options c.args.words.now found c.in_default.len_below) c.asked_of.ensures
