@@ -5,11 +5,11 @@ use Rattle.std.specs.Bool.{MatchBool}
 use Rattle.std.specs.Option.{option_map, option_or}
 use Rattle.std.specs.List.{AllByRecursion}
 use Rattle.std.specs.Str.{IsUtf8, is_utf8}
-use Rattle.std.proofs.lemmas.Str.{IsUtf8-nil, IsUtf8-from_is_utf8}
+use Rattle.std.proofs.lemmas.Str.{IsUtf8-nil, IsUtf8-from_is_utf8, utf8_valid_len-IsUtf8}
 use Rattle.std.proofs.Math.Seq.{take-length}
 use Rattle.feed_codec.specs.declared.refusal.Reason.TheVariants.{NotText}
 use Rattle.std.specs.Str.Lossy.{utf8_valid_len, valid_len_up_to}
-use Rattle.std.proofs.lemmas.Bool.{eqb-true}
+use Rattle.std.proofs.lemmas.Bool.{eqb-true, eq-eqb}
 use Rattle.rt_wire.specs.declared.fault.WireFault.{WireFault}
 use Rattle.rt_wire.specs.Fields.{WireField, WireValue, Varint, Fixed64, Len, Group, Fixed32}
 use Rattle.rt_wire.specs.Placed.{PlacedField, placed_fields}
@@ -60,11 +60,17 @@ up_to_fine : (bs : List ℕ) (n : ℕ) → valid_len_up_to bs n ≡ n → IsUtf8
 up_to_fine bs zero e = IsUtf8-nil
 up_to_fine bs (suc n) e = IsUtf8-from_is_utf8 (take (suc n) bs) (is_first (is_utf8 (take (suc n) bs)) n (valid_len_up_to bs n) (up_to_le bs n) e)
 
+abbrev some_text : List ℕ → Option (List ℕ)
+some_text p = Some p
+
 pub text_fine : (p : List ℕ) → text_fault p ≡ nothing → IsUtf8 p
 unfolding utf8_valid_len
 text_fine p e =
     let all : utf8_valid_len p ≡ length p = eqb-true (utf8_valid_len p) (length p) (is_test (eqb (utf8_valid_len p) (length p)) (record { at = utf8_valid_len p; reason = NotText }) e) in
     rw (← take-length p) (up_to_fine p (length p) all)
+
+pub text_right : (q : List ℕ) → IsUtf8 q → (p : List ℕ) → some_text q ≡ some_text p → text_fault p ≡ nothing
+text_right q u p e = let same : q ≡ p = cc in rw (← same) (rw (eq-eqb _ _ (utf8_valid_len-IsUtf8 q u)) refl)
 
 either : (b : Bool) (P Q : Type 0) → P → Q → MatchBool b P Q
 either true P Q p q = p

@@ -7,6 +7,7 @@ ghost use Rattle.feed_values.specs.Views.{alert_value, time_range_value, entity_
 use crate::checking::{Checked, check_message, check_text};
 use crate::message::{Message, merge_optional, push_repeated};
 use crate::refusal::Refusal;
+use crate::stopped::Stopped;
 use crate::taking::{take_enum, take_i32, take_text, take_u64};
 use feed_values::{
     Alert, EntitySelector, Items, TimeRange, TranslatedString, TripDescriptor, Unknown,
@@ -47,7 +48,7 @@ impl Message for Alert {
     }
 
     #[tactic(auto, unfolding(crate::specs::Merging::with_fields))]
-    fn merge_slot(&mut self, alloc: Global, field: &RawField<'_>) -> Result<bool, AllocError> {
+    fn merge_slot(&mut self, alloc: Global, field: &RawField<'_>) -> Result<bool, Stopped> {
         match field.number {
             1 => push_repeated(alloc, &mut self.active_period, field.value),
             5 => push_repeated(alloc, &mut self.informed_entity, field.value),
@@ -88,7 +89,7 @@ impl Message for TimeRange {
         }
     }
 
-    fn merge_slot(&mut self, _alloc: Global, field: &RawField<'_>) -> Result<bool, AllocError> {
+    fn merge_slot(&mut self, _alloc: Global, field: &RawField<'_>) -> Result<bool, Stopped> {
         match field.number {
             1 => Ok(take_u64(&mut self.start, field.value)),
             2 => Ok(take_u64(&mut self.end, field.value)),
@@ -133,7 +134,7 @@ impl Message for EntitySelector {
     }
 
     #[tactic(auto, unfolding(crate::specs::Merging::with_fields))]
-    fn merge_slot(&mut self, alloc: Global, field: &RawField<'_>) -> Result<bool, AllocError> {
+    fn merge_slot(&mut self, alloc: Global, field: &RawField<'_>) -> Result<bool, Stopped> {
         match field.number {
             1 => take_text(alloc, &mut self.agency_id, field.value),
             2 => take_text(alloc, &mut self.route_id, field.value),

@@ -7,6 +7,7 @@ ghost use Rattle.feed_values.specs.Views.{trip_descriptor_value, vehicle_descrip
 use crate::checking::{Checked, check_text};
 use crate::message::Message;
 use crate::refusal::Refusal;
+use crate::stopped::Stopped;
 use crate::taking::{take_enum, take_text, take_u32};
 use feed_values::{Items, TripDescriptor, Unknown, VehicleDescriptor};
 use rt_wire::RawField;
@@ -40,7 +41,7 @@ impl Message for TripDescriptor {
         }
     }
 
-    fn merge_slot(&mut self, alloc: Global, field: &RawField<'_>) -> Result<bool, AllocError> {
+    fn merge_slot(&mut self, alloc: Global, field: &RawField<'_>) -> Result<bool, Stopped> {
         match field.number {
             1 => take_text(alloc, &mut self.trip_id, field.value),
             2 => take_text(alloc, &mut self.start_time, field.value),
@@ -84,7 +85,7 @@ impl Message for VehicleDescriptor {
         }
     }
 
-    fn merge_slot(&mut self, alloc: Global, field: &RawField<'_>) -> Result<bool, AllocError> {
+    fn merge_slot(&mut self, alloc: Global, field: &RawField<'_>) -> Result<bool, Stopped> {
         match field.number {
             1 => take_text(alloc, &mut self.id, field.value),
             2 => take_text(alloc, &mut self.label, field.value),

@@ -21,6 +21,7 @@
 //!
 //! - `refusal`: why bytes are no snapshot, and where
 //! - `codec_fault`: a refusal, or want of memory
+//! - `stopped`: that something is wrong, or no memory is left
 //! - `numbers`: the numbers of the slots that are asked for by name
 //! - `taking`: a number or a text into its slot
 //! - `unknown`: a field of no slot, with memory of its own
@@ -57,6 +58,7 @@ mod numbers;
 mod paths;
 mod refusal;
 mod snapshot;
+mod stopped;
 mod taking;
 mod translation;
 mod trip_update;

@@ -1,18 +1,18 @@
 //! Numbers and texts into their slots. Each call says whether the value was of the slot's wire type, and for an enum also
-//! one of its numbers; where it wasn't, the slot stays as it was.
+//! one of its numbers; where it wasn't, the slot stays as it was. A text that isn't UTF-8 is stopped at.
 //! (Protocol Buffers, Encoding, "Last One Wins"; Language Guide proto2, "Scalar Value Types".)
 ghost use Rattle.std.specs.Prelude.{◌≡◌, ◌%◌, ◌^◌, IfOk, IfSome, List, ℕ, pos};
 ghost use Rattle.std.specs.Option.{option_map};
 ghost use Rattle.feed_values.specs.Schema as schema;
-ghost use Rattle.feed_codec.specs.Merging.{required, merged_scalar, merged_text, Took, TakenOr};
-ghost use Rattle.feed_values.specs.Meaning.{payload_in};
-ghost use Rattle.std.specs.Str.{IsUtf8};
+ghost use Rattle.feed_codec.specs.Merging.{required, merged_scalar, merged_text, Took, TakenOr, NothingWrong};
+ghost use Rattle.feed_codec.specs.Refusal.{text_fault};
 ghost use Rattle.feed_values.specs.Views.{natural, truth};
 ghost use Rattle.rt_wire.specs.Placed.{value_of};
 
+use crate::stopped::Stopped;
 use feed_values::Text;
 use rt_wire::RawValue;
-use std::alloc::{AllocError, Global};
+use std::alloc::Global;
 
 fn low_32(n: u64) -> u32
     ensures { result ≡ n % 2 ^ 32 }
@@ -79,9 +79,9 @@ pub fn take_text(
     alloc: Global,
     held: &mut Option<Text>,
     value: RawValue<'_>,
-) -> Result<bool, AllocError>
-    requires { IfSome (payload_in (value_of value)) IsUtf8 }
-    ensures { TakenOr (merged_text schema.Optional (value_of value.entry)) held.old held.new result }
+) -> Result<bool, Stopped>
+    ensures value { TakenOr (merged_text schema.Optional (value_of value.entry)) held.old held.new result }
+    ensures fine { IfOk result (λ _. NothingWrong text_fault (value_of value.entry)) }
 {
     let RawValue::Len(payload) = value else {
         return Ok(false);
@@ -93,7 +93,7 @@ pub fn take_text(
             *held = Some(text);
             Ok(true)
         }
-        Err(_) => unreachable!(),
+        Err(_) => Err(Stopped),
     }
 }
 
@@ -101,9 +101,9 @@ pub fn take_required_text(
     alloc: Global,
     held: &mut Text,
     value: RawValue<'_>,
-) -> Result<bool, AllocError>
-    requires { IfSome (payload_in (value_of value)) IsUtf8 }
-    ensures { TakenOr (merged_text required (value_of value.entry)) held.old held.new result }
+) -> Result<bool, Stopped>
+    ensures value { TakenOr (merged_text required (value_of value.entry)) held.old held.new result }
+    ensures fine { IfOk result (λ _. NothingWrong text_fault (value_of value.entry)) }
 {
     let mut text = None;
     let taken = take_text(alloc, &mut text, value)?;

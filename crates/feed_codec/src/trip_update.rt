@@ -7,6 +7,7 @@ ghost use Rattle.feed_values.specs.Views.{trip_update_value, stop_time_update_va
 use crate::checking::{Checked, check_message, check_text};
 use crate::message::{Message, merge_optional, merge_required, push_repeated};
 use crate::refusal::Refusal;
+use crate::stopped::Stopped;
 use crate::taking::{take_enum, take_i32, take_i64, take_text, take_u32, take_u64};
 use feed_values::{
     Items, StopTimeEvent, StopTimeUpdate, TripDescriptor, TripUpdate, Unknown, VehicleDescriptor,
@@ -45,7 +46,7 @@ impl Message for TripUpdate {
     }
 
     #[tactic(auto, unfolding(crate::specs::Merging::with_fields))]
-    fn merge_slot(&mut self, alloc: Global, field: &RawField<'_>) -> Result<bool, AllocError> {
+    fn merge_slot(&mut self, alloc: Global, field: &RawField<'_>) -> Result<bool, Stopped> {
         match field.number {
             1 => merge_required(alloc, &mut self.trip, field.value),
             2 => push_repeated(alloc, &mut self.stop_time_update, field.value),
@@ -93,7 +94,7 @@ impl Message for StopTimeUpdate {
     }
 
     #[tactic(auto, unfolding(crate::specs::Merging::with_fields))]
-    fn merge_slot(&mut self, alloc: Global, field: &RawField<'_>) -> Result<bool, AllocError> {
+    fn merge_slot(&mut self, alloc: Global, field: &RawField<'_>) -> Result<bool, Stopped> {
         match field.number {
             1 => Ok(take_u32(&mut self.stop_sequence, field.value)),
             2 => merge_optional(alloc, &mut self.arrival, field.value),
@@ -133,7 +134,7 @@ impl Message for StopTimeEvent {
         }
     }
 
-    fn merge_slot(&mut self, _alloc: Global, field: &RawField<'_>) -> Result<bool, AllocError> {
+    fn merge_slot(&mut self, _alloc: Global, field: &RawField<'_>) -> Result<bool, Stopped> {
         match field.number {
             1 => Ok(take_i32(&mut self.delay, field.value)),
             2 => Ok(take_i64(&mut self.time, field.value)),

@@ -7,6 +7,7 @@ ghost use Rattle.feed_values.specs.Views.{vehicle_position_value, position_value
 use crate::checking::{Checked, check_message, check_text};
 use crate::message::{Message, merge_optional};
 use crate::refusal::Refusal;
+use crate::stopped::Stopped;
 use crate::taking::{
     take_bits32, take_bits64, take_enum, take_required_bits32, take_text, take_u32, take_u64,
 };
@@ -50,7 +51,7 @@ impl Message for VehiclePosition {
     }
 
     #[tactic(auto, unfolding(crate::specs::Merging::with_fields))]
-    fn merge_slot(&mut self, alloc: Global, field: &RawField<'_>) -> Result<bool, AllocError> {
+    fn merge_slot(&mut self, alloc: Global, field: &RawField<'_>) -> Result<bool, Stopped> {
         match field.number {
             1 => merge_optional(alloc, &mut self.trip, field.value),
             2 => merge_optional(alloc, &mut self.position, field.value),
@@ -96,7 +97,7 @@ impl Message for Position {
         }
     }
 
-    fn merge_slot(&mut self, _alloc: Global, field: &RawField<'_>) -> Result<bool, AllocError> {
+    fn merge_slot(&mut self, _alloc: Global, field: &RawField<'_>) -> Result<bool, Stopped> {
         match field.number {
             1 => Ok(take_required_bits32(&mut self.latitude, field.value)),
             2 => Ok(take_required_bits32(&mut self.longitude, field.value)),
