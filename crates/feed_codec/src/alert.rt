@@ -7,6 +7,7 @@ ghost use Rattle.feed_values.specs.Views.{alert_value, time_range_value, entity_
 use crate::checking::{Checked, check_message, check_text};
 use crate::message::{Message, merge_optional, push_repeated};
 use crate::refusal::Refusal;
+use crate::room::room_for;
 use crate::stopped::Stopped;
 use crate::taking::{take_enum, take_i32, take_text, take_u64};
 use feed_values::{
@@ -45,6 +46,13 @@ impl Message for Alert {
             description_text: None,
             unknown: Items::new(alloc),
         }
+    }
+
+    fn with_room(alloc: Global, payload: &[u8]) -> Result<Alert, AllocError> {
+        let mut message = Alert::empty(alloc);
+        message.active_period = room_for(alloc, payload, 1)?;
+        message.informed_entity = room_for(alloc, payload, 5)?;
+        Ok(message)
     }
 
     #[tactic(auto, unfolding(crate::specs::Merging::with_fields))]

@@ -12,6 +12,7 @@ use crate::checking::{Checked, check_message, check_text};
 use crate::message::{Message, merge_optional, merge_required, push_repeated};
 use crate::missing::missing_in_entity;
 use crate::refusal::Refusal;
+use crate::room::room_for;
 use crate::stopped::Stopped;
 use crate::taking::{take_bool, take_enum, take_required_text, take_u64};
 use feed_values::{
@@ -51,6 +52,12 @@ impl Message for FeedMessage {
             entity: Items::new(alloc),
             unknown: Items::new(alloc),
         }
+    }
+
+    fn with_room(alloc: Global, payload: &[u8]) -> Result<FeedMessage, AllocError> {
+        let mut message = FeedMessage::empty(alloc);
+        message.entity = room_for(alloc, payload, 2)?;
+        Ok(message)
     }
 
     #[tactic(auto, unfolding(crate::specs::Merging::with_fields, crate::specs::Refusal::first_fault))]

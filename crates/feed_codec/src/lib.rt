@@ -26,6 +26,7 @@
 //! - `taking`: a number or a text into its slot
 //! - `unknown`: a field of no slot, with memory of its own
 //! - `paths`: whether a field is there, at a path of slots
+//! - `room`: lists with the room that they need
 //! - `message`: any message, field by field
 //! - `checking`: the first fault of any message, but for required slots
 //! - `descriptors`, `translation`, `alert`, `vehicle_position`, `trip_update`, `feed`: the kinds of message
@@ -57,6 +58,7 @@ mod missing;
 mod numbers;
 mod paths;
 mod refusal;
+mod room;
 mod snapshot;
 mod stopped;
 mod taking;

@@ -26,6 +26,13 @@ pub trait Message: Checked + Drop {
     fn empty(alloc: Global) -> Self
         ensures { value result ≡ blank schema };
 
+    /// A message that holds nothing, with room for each message that a payload gives to one of its lists.
+    fn with_room(alloc: Global, _payload: &[u8]) -> Result<Self, AllocError>
+        ensures { IfOk result (λ message. value message ≡ blank schema) }
+    {
+        Ok(Self::empty(alloc))
+    }
+
     /// Takes a field that is of a slot, and says whether it was. It is stopped where something is wrong inside the field.
     fn merge_slot(&mut self, alloc: Global, field: &RawField<'_>) -> Result<bool, Stopped>
         ensures value { TakenOr (merged schema (placed_field field.now).field (value self.old)) (value self.old) (value self.new) result }
@@ -83,12 +90,13 @@ pub fn merge_optional<M: Message>(
     let RawValue::Len(payload) = value else {
         return Ok(false);
     };
-    let mut message = match held.take() {
-        Some(message) => message,
-        None => M::empty(alloc),
-    };
-    merge(alloc, &mut message, payload)?;
-    *held = Some(message);
+    if held.is_none() {
+        *held = Some(M::with_room(alloc, payload)?);
+    }
+    match held {
+        Some(message) => merge(alloc, message, payload)?,
+        None => unreachable!(),
+    }
     Ok(true)
 }
 
@@ -130,7 +138,7 @@ pub fn push_repeated<M: Message>(
     let RawValue::Len(payload) = value else {
         return Ok(false);
     };
-    let mut message = M::empty(alloc);
+    let mut message = M::with_room(alloc, payload)?;
     merge(alloc, &mut message, payload)?;
     append(held, message)?;
     Ok(true)
@@ -142,7 +150,7 @@ pub fn message_of<M: Message>(alloc: Global, bytes: &[u8]) -> Result<M, Stopped>
     ensures value { IfOk result (λ message. M.value message ≡ meaning M.schema (fields bytes.now)) }
     ensures fine { IfOk result (λ _. first_in (in_payload M.wrong) (placed_fields bytes.now) ≡ None) }
 {
-    let mut message = M::empty(alloc);
+    let mut message = M::with_room(alloc, bytes)?;
     merge(alloc, &mut message, bytes)?;
     Ok(message)
 }

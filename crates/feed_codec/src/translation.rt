@@ -7,6 +7,7 @@ ghost use Rattle.feed_values.specs.Views.{translated_string_value, translation_v
 use crate::checking::{Checked, check_message, check_text};
 use crate::message::{Message, push_repeated};
 use crate::refusal::Refusal;
+use crate::room::room_for;
 use crate::stopped::Stopped;
 use crate::taking::{take_required_text, take_text};
 use feed_values::{Items, Text, TranslatedString, Translation, Unknown};
@@ -35,6 +36,12 @@ impl Message for TranslatedString {
             translation: Items::new(alloc),
             unknown: Items::new(alloc),
         }
+    }
+
+    fn with_room(alloc: Global, payload: &[u8]) -> Result<TranslatedString, AllocError> {
+        let mut message = TranslatedString::empty(alloc);
+        message.translation = room_for(alloc, payload, 1)?;
+        Ok(message)
     }
 
     #[tactic(auto, unfolding(crate::specs::Merging::with_fields))]

@@ -7,6 +7,7 @@ ghost use Rattle.feed_values.specs.Views.{trip_update_value, stop_time_update_va
 use crate::checking::{Checked, check_message, check_text};
 use crate::message::{Message, merge_optional, merge_required, push_repeated};
 use crate::refusal::Refusal;
+use crate::room::room_for;
 use crate::stopped::Stopped;
 use crate::taking::{take_enum, take_i32, take_i64, take_text, take_u32, take_u64};
 use feed_values::{
@@ -43,6 +44,12 @@ impl Message for TripUpdate {
             delay: None,
             unknown: Items::new(alloc),
         }
+    }
+
+    fn with_room(alloc: Global, payload: &[u8]) -> Result<TripUpdate, AllocError> {
+        let mut message = TripUpdate::empty(alloc);
+        message.stop_time_update = room_for(alloc, payload, 2)?;
+        Ok(message)
     }
 
     #[tactic(auto, unfolding(crate::specs::Merging::with_fields))]
