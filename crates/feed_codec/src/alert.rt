@@ -58,13 +58,13 @@ impl Message for Alert {
     #[tactic(auto, unfolding(crate::specs::Merging::with_fields))]
     fn merge_slot(&mut self, alloc: Global, field: &RawField<'_>) -> Result<bool, Stopped> {
         match field.number {
-            1 => push_repeated(alloc, &mut self.active_period, field.value),
-            5 => push_repeated(alloc, &mut self.informed_entity, field.value),
-            6 => Ok(take_enum(&mut self.cause, field.value, 1, 12)),
-            7 => Ok(take_enum(&mut self.effect, field.value, 1, 9)),
-            8 => merge_optional(alloc, &mut self.url, field.value),
-            10 => merge_optional(alloc, &mut self.header_text, field.value),
-            11 => merge_optional(alloc, &mut self.description_text, field.value),
+            1 => push_repeated(alloc, &mut self.active_period, &field.value),
+            5 => push_repeated(alloc, &mut self.informed_entity, &field.value),
+            6 => Ok(take_enum(&mut self.cause, &field.value, 1, 12)),
+            7 => Ok(take_enum(&mut self.effect, &field.value, 1, 9)),
+            8 => merge_optional(alloc, &mut self.url, &field.value),
+            10 => merge_optional(alloc, &mut self.header_text, &field.value),
+            11 => merge_optional(alloc, &mut self.description_text, &field.value),
             _ => Ok(false),
         }
     }
@@ -99,8 +99,8 @@ impl Message for TimeRange {
 
     fn merge_slot(&mut self, _alloc: Global, field: &RawField<'_>) -> Result<bool, Stopped> {
         match field.number {
-            1 => Ok(take_u64(&mut self.start, field.value)),
-            2 => Ok(take_u64(&mut self.end, field.value)),
+            1 => Ok(take_u64(&mut self.start, &field.value)),
+            2 => Ok(take_u64(&mut self.end, &field.value)),
             _ => Ok(false),
         }
     }
@@ -144,11 +144,11 @@ impl Message for EntitySelector {
     #[tactic(auto, unfolding(crate::specs::Merging::with_fields))]
     fn merge_slot(&mut self, alloc: Global, field: &RawField<'_>) -> Result<bool, Stopped> {
         match field.number {
-            1 => take_text(alloc, &mut self.agency_id, field.value),
-            2 => take_text(alloc, &mut self.route_id, field.value),
-            3 => Ok(take_i32(&mut self.route_type, field.value)),
-            4 => merge_optional(alloc, &mut self.trip, field.value),
-            5 => take_text(alloc, &mut self.stop_id, field.value),
+            1 => take_text(alloc, &mut self.agency_id, &field.value),
+            2 => take_text(alloc, &mut self.route_id, &field.value),
+            3 => Ok(take_i32(&mut self.route_type, &field.value)),
+            4 => merge_optional(alloc, &mut self.trip, &field.value),
+            5 => take_text(alloc, &mut self.stop_id, &field.value),
             _ => Ok(false),
         }
     }

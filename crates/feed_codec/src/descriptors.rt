@@ -43,12 +43,12 @@ impl Message for TripDescriptor {
 
     fn merge_slot(&mut self, alloc: Global, field: &RawField<'_>) -> Result<bool, Stopped> {
         match field.number {
-            1 => take_text(alloc, &mut self.trip_id, field.value),
-            2 => take_text(alloc, &mut self.start_time, field.value),
-            3 => take_text(alloc, &mut self.start_date, field.value),
-            4 => Ok(take_enum(&mut self.schedule_relationship, field.value, 0, 3)),
-            5 => take_text(alloc, &mut self.route_id, field.value),
-            6 => Ok(take_u32(&mut self.direction_id, field.value)),
+            1 => take_text(alloc, &mut self.trip_id, &field.value),
+            2 => take_text(alloc, &mut self.start_time, &field.value),
+            3 => take_text(alloc, &mut self.start_date, &field.value),
+            4 => Ok(take_enum(&mut self.schedule_relationship, &field.value, 0, 3)),
+            5 => take_text(alloc, &mut self.route_id, &field.value),
+            6 => Ok(take_u32(&mut self.direction_id, &field.value)),
             _ => Ok(false),
         }
     }
@@ -87,9 +87,9 @@ impl Message for VehicleDescriptor {
 
     fn merge_slot(&mut self, alloc: Global, field: &RawField<'_>) -> Result<bool, Stopped> {
         match field.number {
-            1 => take_text(alloc, &mut self.id, field.value),
-            2 => take_text(alloc, &mut self.label, field.value),
-            3 => take_text(alloc, &mut self.license_plate, field.value),
+            1 => take_text(alloc, &mut self.id, &field.value),
+            2 => take_text(alloc, &mut self.label, &field.value),
+            3 => take_text(alloc, &mut self.license_plate, &field.value),
             _ => Ok(false),
         }
     }

@@ -26,13 +26,13 @@ use std::alloc::{AllocError, Global};
 fn push_entity(
     alloc: Global,
     held: &mut Items<Entity>,
-    value: RawValue<'_>,
+    value: &RawValue<'_>,
 ) -> Result<bool, Stopped>
-    ensures value { TakenOr (merged_repeated (with_fields entity) (blank entity) (value_of value.entry) (map entity_value held.old))
+    ensures value { TakenOr (merged_repeated (with_fields entity) (blank entity) (value_of value.now) (map entity_value held.old))
         (map entity_value held.old) (map entity_value held.new) result }
-    ensures fine { IfOk result (λ _. NothingWrong entity_fault (value_of value.entry)) }
+    ensures fine { IfOk result (λ _. NothingWrong entity_fault (value_of value.now)) }
 {
-    let RawValue::Len(payload) = value else {
+    let RawValue::Len(payload) = *value else {
         return Ok(false);
     };
     if missing_in_entity(payload).is_some() {
@@ -63,8 +63,8 @@ impl Message for FeedMessage {
     #[tactic(auto, unfolding(crate::specs::Merging::with_fields, crate::specs::Refusal::first_fault))]
     fn merge_slot(&mut self, alloc: Global, field: &RawField<'_>) -> Result<bool, Stopped> {
         match field.number {
-            1 => merge_required(alloc, &mut self.header, field.value),
-            2 => push_entity(alloc, &mut self.entity, field.value),
+            1 => merge_required(alloc, &mut self.header, &field.value),
+            2 => push_entity(alloc, &mut self.entity, &field.value),
             _ => Ok(false),
         }
     }
@@ -103,9 +103,9 @@ impl Message for FeedHeader {
 
     fn merge_slot(&mut self, alloc: Global, field: &RawField<'_>) -> Result<bool, Stopped> {
         match field.number {
-            1 => take_required_text(alloc, &mut self.gtfs_realtime_version, field.value),
-            2 => Ok(take_enum(&mut self.incrementality, field.value, 0, 1)),
-            3 => Ok(take_u64(&mut self.timestamp, field.value)),
+            1 => take_required_text(alloc, &mut self.gtfs_realtime_version, &field.value),
+            2 => Ok(take_enum(&mut self.incrementality, &field.value, 0, 1)),
+            3 => Ok(take_u64(&mut self.timestamp, &field.value)),
             _ => Ok(false),
         }
     }
@@ -151,11 +151,11 @@ impl Message for Entity {
     #[tactic(auto, unfolding(crate::specs::Merging::with_fields))]
     fn merge_slot(&mut self, alloc: Global, field: &RawField<'_>) -> Result<bool, Stopped> {
         match field.number {
-            1 => take_required_text(alloc, &mut self.id, field.value),
-            2 => Ok(take_bool(&mut self.is_deleted, field.value)),
-            3 => merge_optional(alloc, &mut self.trip_update, field.value),
-            4 => merge_optional(alloc, &mut self.vehicle, field.value),
-            5 => merge_optional(alloc, &mut self.alert, field.value),
+            1 => take_required_text(alloc, &mut self.id, &field.value),
+            2 => Ok(take_bool(&mut self.is_deleted, &field.value)),
+            3 => merge_optional(alloc, &mut self.trip_update, &field.value),
+            4 => merge_optional(alloc, &mut self.vehicle, &field.value),
+            5 => merge_optional(alloc, &mut self.alert, &field.value),
             _ => Ok(false),
         }
     }

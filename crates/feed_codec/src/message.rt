@@ -67,13 +67,16 @@ pub fn merge<M: Message>(alloc: Global, message: &mut M, bytes: &[u8]) -> Result
     ensures fine { IfOk result (λ _. first_in (in_payload M.wrong) (placed_fields bytes.now) ≡ None) }
 {
     let mut fields = Fields::new(bytes);
-    while let Some(field) = fields.next() {
-        match field {
-            Ok(field) => merge_field(alloc, message, &field)?,
+    loop {
+        let next = fields.next();
+        let Some(read) = &next else {
+            return Ok(());
+        };
+        match read {
+            Ok(field) => merge_field(alloc, message, field)?,
             Err(_) => return Err(Stopped),
         }
     }
-    Ok(())
 }
 
 /// Takes the fields of a payload into the message that an optional slot holds, or into an empty one.
@@ -81,13 +84,13 @@ pub fn merge<M: Message>(alloc: Global, message: &mut M, bytes: &[u8]) -> Result
 pub fn merge_optional<M: Message>(
     alloc: Global,
     held: &mut Option<M>,
-    value: RawValue<'_>,
+    value: &RawValue<'_>,
 ) -> Result<bool, Stopped>
-    ensures value { TakenOr (merged_message Optional (with_fields M.schema) (blank M.schema) (value_of value.entry) (option_map M.value held.old))
+    ensures value { TakenOr (merged_message Optional (with_fields M.schema) (blank M.schema) (value_of value.now) (option_map M.value held.old))
         (option_map M.value held.old) (option_map M.value held.new) result }
-    ensures fine { IfOk result (λ _. NothingWrong (λ p. first_in (in_payload M.wrong) (placed_fields p)) (value_of value.entry)) }
+    ensures fine { IfOk result (λ _. NothingWrong (λ p. first_in (in_payload M.wrong) (placed_fields p)) (value_of value.now)) }
 {
-    let RawValue::Len(payload) = value else {
+    let RawValue::Len(payload) = *value else {
         return Ok(false);
     };
     if held.is_none() {
@@ -105,13 +108,13 @@ pub fn merge_optional<M: Message>(
 pub fn merge_required<M: Message>(
     alloc: Global,
     held: &mut M,
-    value: RawValue<'_>,
+    value: &RawValue<'_>,
 ) -> Result<bool, Stopped>
-    ensures value { TakenOr (merged_message required (with_fields M.schema) (blank M.schema) (value_of value.entry) (M.value held.old))
+    ensures value { TakenOr (merged_message required (with_fields M.schema) (blank M.schema) (value_of value.now) (M.value held.old))
         (M.value held.old) (M.value held.new) result }
-    ensures fine { IfOk result (λ _. NothingWrong (λ p. first_in (in_payload M.wrong) (placed_fields p)) (value_of value.entry)) }
+    ensures fine { IfOk result (λ _. NothingWrong (λ p. first_in (in_payload M.wrong) (placed_fields p)) (value_of value.now)) }
 {
-    let RawValue::Len(payload) = value else {
+    let RawValue::Len(payload) = *value else {
         return Ok(false);
     };
     merge(alloc, held, payload)?;
@@ -129,13 +132,13 @@ fn append<M: Drop>(held: &mut Items<M>, message: M) -> Result<(), AllocError>
 pub fn push_repeated<M: Message>(
     alloc: Global,
     held: &mut Items<M>,
-    value: RawValue<'_>,
+    value: &RawValue<'_>,
 ) -> Result<bool, Stopped>
-    ensures value { TakenOr (merged_repeated (with_fields M.schema) (blank M.schema) (value_of value.entry) (map M.value held.old))
+    ensures value { TakenOr (merged_repeated (with_fields M.schema) (blank M.schema) (value_of value.now) (map M.value held.old))
         (map M.value held.old) (map M.value held.new) result }
-    ensures fine { IfOk result (λ _. NothingWrong (λ p. first_in (in_payload M.wrong) (placed_fields p)) (value_of value.entry)) }
+    ensures fine { IfOk result (λ _. NothingWrong (λ p. first_in (in_payload M.wrong) (placed_fields p)) (value_of value.now)) }
 {
-    let RawValue::Len(payload) = value else {
+    let RawValue::Len(payload) = *value else {
         return Ok(false);
     };
     let mut message = M::with_room(alloc, payload)?;

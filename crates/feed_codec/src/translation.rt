@@ -47,7 +47,7 @@ impl Message for TranslatedString {
     #[tactic(auto, unfolding(crate::specs::Merging::with_fields))]
     fn merge_slot(&mut self, alloc: Global, field: &RawField<'_>) -> Result<bool, Stopped> {
         match field.number {
-            1 => push_repeated(alloc, &mut self.translation, field.value),
+            1 => push_repeated(alloc, &mut self.translation, &field.value),
             _ => Ok(false),
         }
     }
@@ -85,8 +85,8 @@ impl Message for Translation {
 
     fn merge_slot(&mut self, alloc: Global, field: &RawField<'_>) -> Result<bool, Stopped> {
         match field.number {
-            1 => take_required_text(alloc, &mut self.text, field.value),
-            2 => take_text(alloc, &mut self.language, field.value),
+            1 => take_required_text(alloc, &mut self.text, &field.value),
+            2 => take_text(alloc, &mut self.language, &field.value),
             _ => Ok(false),
         }
     }

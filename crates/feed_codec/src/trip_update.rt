@@ -55,11 +55,11 @@ impl Message for TripUpdate {
     #[tactic(auto, unfolding(crate::specs::Merging::with_fields))]
     fn merge_slot(&mut self, alloc: Global, field: &RawField<'_>) -> Result<bool, Stopped> {
         match field.number {
-            1 => merge_required(alloc, &mut self.trip, field.value),
-            2 => push_repeated(alloc, &mut self.stop_time_update, field.value),
-            3 => merge_optional(alloc, &mut self.vehicle, field.value),
-            4 => Ok(take_u64(&mut self.timestamp, field.value)),
-            5 => Ok(take_i32(&mut self.delay, field.value)),
+            1 => merge_required(alloc, &mut self.trip, &field.value),
+            2 => push_repeated(alloc, &mut self.stop_time_update, &field.value),
+            3 => merge_optional(alloc, &mut self.vehicle, &field.value),
+            4 => Ok(take_u64(&mut self.timestamp, &field.value)),
+            5 => Ok(take_i32(&mut self.delay, &field.value)),
             _ => Ok(false),
         }
     }
@@ -103,11 +103,11 @@ impl Message for StopTimeUpdate {
     #[tactic(auto, unfolding(crate::specs::Merging::with_fields))]
     fn merge_slot(&mut self, alloc: Global, field: &RawField<'_>) -> Result<bool, Stopped> {
         match field.number {
-            1 => Ok(take_u32(&mut self.stop_sequence, field.value)),
-            2 => merge_optional(alloc, &mut self.arrival, field.value),
-            3 => merge_optional(alloc, &mut self.departure, field.value),
-            4 => take_text(alloc, &mut self.stop_id, field.value),
-            5 => Ok(take_enum(&mut self.schedule_relationship, field.value, 0, 2)),
+            1 => Ok(take_u32(&mut self.stop_sequence, &field.value)),
+            2 => merge_optional(alloc, &mut self.arrival, &field.value),
+            3 => merge_optional(alloc, &mut self.departure, &field.value),
+            4 => take_text(alloc, &mut self.stop_id, &field.value),
+            5 => Ok(take_enum(&mut self.schedule_relationship, &field.value, 0, 2)),
             _ => Ok(false),
         }
     }
@@ -143,9 +143,9 @@ impl Message for StopTimeEvent {
 
     fn merge_slot(&mut self, _alloc: Global, field: &RawField<'_>) -> Result<bool, Stopped> {
         match field.number {
-            1 => Ok(take_i32(&mut self.delay, field.value)),
-            2 => Ok(take_i64(&mut self.time, field.value)),
-            3 => Ok(take_i32(&mut self.uncertainty, field.value)),
+            1 => Ok(take_i32(&mut self.delay, &field.value)),
+            2 => Ok(take_i64(&mut self.time, &field.value)),
+            3 => Ok(take_i32(&mut self.uncertainty, &field.value)),
             _ => Ok(false),
         }
     }
