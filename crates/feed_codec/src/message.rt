@@ -67,16 +67,13 @@ pub fn merge<M: Message>(alloc: Global, message: &mut M, bytes: &[u8]) -> Result
     ensures fine { IfOk result (λ _. first_in (in_payload M.wrong) (placed_fields bytes.now) ≡ None) }
 {
     let mut fields = Fields::new(bytes);
-    loop {
-        let next = fields.next();
-        let Some(read) = &next else {
-            return Ok(());
-        };
-        match read {
-            Ok(field) => merge_field(alloc, message, field)?,
+    while let Some(field) = fields.next() {
+        match field {
+            Ok(field) => merge_field(alloc, message, &field)?,
             Err(_) => return Err(Stopped),
         }
     }
+    Ok(())
 }
 
 /// Takes the fields of a payload into the message that an optional slot holds, or into an empty one.

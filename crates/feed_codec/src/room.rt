@@ -16,15 +16,12 @@ pub fn room_for<T>(alloc: Global, bytes: &[u8], number: u32) -> Result<Items<T>,
 fn count_payloads(bytes: &[u8], number: u32) -> usize {
     let mut count = 0usize;
     let mut fields = Fields::new(bytes);
-    loop {
-        let next = fields.next();
-        let Some(Ok(field)) = &next else {
-            return count;
-        };
-        if is_payload(field, number) {
+    while let Some(Ok(field)) = fields.next() {
+        if is_payload(&field, number) {
             count = count.saturating_add(1);
         }
     }
+    count
 }
 
 fn is_payload(field: &RawField<'_>, number: u32) -> bool {
