@@ -1,4 +1,4 @@
--- Fields whose tag is of one byte, with a number or a length of one byte.
+-- Fields whose tag is of one byte, with a number, or a payload with a length of one byte.
 use Rattle.std.proofs.Common.{◌≡◌, ℕ, ◌+◌, ◌-◌, ◌/◌, ◌%◌, ◌^◌, ◌<◌, ◌≤◌, false, ltb, leb, List, [], ◌∷◌, length, drop, slice_index_or, Some, Ok, refl, arith}
 use Rattle.std.specs.Prelude.{slice_range}
 use Rattle.std.proofs.lemmas.Bool.{le-ltb, lt-leb}
@@ -27,29 +27,27 @@ short_tag bytes at w here low some e =
     let small : ltb t 8 ≡ false = le-ltb t 8 some in
     rw (short_varint bytes at here low, big, small, e) refl
 
--- two bytes of which the first is a tag
+-- a tag of one byte, and a byte behind it
 pub record ShortTag (bytes : List ℕ) (at : ℕ) : Type 0 where
   pub here : at + 2 ≤ length bytes
   pub some : 8 ≤ slice_index_or bytes at 0
   pub low : slice_index_or bytes at 0 < 128
-  pub next : slice_index_or bytes (at + 1) 0 < 128
 
-pub short_number : (bytes : List ℕ) (at : ℕ) → ShortTag bytes at → slice_index_or bytes at 0 % 8 ≡ 0
-    → field_from bytes at ≡ Ok (record { field = record { number = slice_index_or bytes at 0 / 8; value = Varint (slice_index_or bytes (at + 1) 0) }; start = at; body = at + 1; stop = at + 2 })
+pub short_number : (bytes : List ℕ) (at number stop : ℕ) → ShortTag bytes at → slice_index_or bytes at 0 % 8 ≡ 0 → varint_from bytes (at + 1) ≡ Ok (number, stop)
+    → field_from bytes at ≡ Ok (record { field = record { number = slice_index_or bytes at 0 / 8; value = Varint number }; start = at; body = at + 1; stop = stop })
 unfolding field_from
-short_number bytes at h code =
-    let two : at + 1 + 1 ≡ at + 2 = omega arith in
-    rw (short_tag bytes at types.Varint (omega (arith, h.here)) h.low h.some (rw code refl), short_varint bytes (at + 1) (omega (arith, h.here)) h.next, two) refl
+short_number bytes at number stop h code e =
+    rw (short_tag bytes at types.Varint (omega (arith, h.here)) h.low h.some (rw code refl), e) refl
 
-payload_here : (bytes : List ℕ) (at : ℕ) → ShortTag bytes at → slice_index_or bytes (at + 1) 0 ≤ length bytes - (at + 2)
+payload_here : (bytes : List ℕ) (at : ℕ) → ShortTag bytes at → slice_index_or bytes (at + 1) 0 < 128 → slice_index_or bytes (at + 1) 0 ≤ length bytes - (at + 2)
     → payload_from bytes (at + 1) ≡ Ok (at + 2, at + 2 + slice_index_or bytes (at + 1) 0)
 unfolding payload_from
-payload_here bytes at h fits =
+payload_here bytes at h low fits =
     let two : at + 1 + 1 ≡ at + 2 = omega arith in
     let room : ltb (length bytes - (at + 2)) (slice_index_or bytes (at + 1) 0) ≡ false = le-ltb _ _ fits in
-    rw (short_varint bytes (at + 1) (omega (arith, h.here)) h.next, two, room) refl
+    rw (short_varint bytes (at + 1) (omega (arith, h.here)) low, two, room) refl
 
-pub short_payload : (bytes : List ℕ) (at : ℕ) → ShortTag bytes at → slice_index_or bytes at 0 % 8 ≡ 2 → slice_index_or bytes (at + 1) 0 ≤ length bytes - (at + 2)
+pub short_payload : (bytes : List ℕ) (at : ℕ) → ShortTag bytes at → slice_index_or bytes at 0 % 8 ≡ 2 → slice_index_or bytes (at + 1) 0 < 128 → slice_index_or bytes (at + 1) 0 ≤ length bytes - (at + 2)
     → field_from bytes at ≡ Ok (record {
       field = record { number = slice_index_or bytes at 0 / 8; value = Len (slice_range bytes (at + 2) (at + 2 + slice_index_or bytes (at + 1) 0)) };
       start = at;
@@ -57,5 +55,5 @@ pub short_payload : (bytes : List ℕ) (at : ℕ) → ShortTag bytes at → slic
       stop = at + 2 + slice_index_or bytes (at + 1) 0;
     })
 unfolding field_from
-short_payload bytes at h code fits =
-    rw (short_tag bytes at types.Len (omega (arith, h.here)) h.low h.some (rw code refl), payload_here bytes at h fits) refl
+short_payload bytes at h code low fits =
+    rw (short_tag bytes at types.Len (omega (arith, h.here)) h.low h.some (rw code refl), payload_here bytes at h low fits) refl
