@@ -19,12 +19,11 @@ use Rattle.feed_values.specs.WellFormed.{IsWellFormed}
 use Rattle.feed_values.specs.Accepted.{IsWhole, IsMessage, missing, missing_message, first_missing, is_differential, snapshot_limit}
 use Rattle.feed_codec.specs.declared.refusal.Refusal.{Refusal}
 use Rattle.feed_codec.specs.declared.refusal.Reason.TheVariants.{Differential}
-use Rattle.feed_codec.specs.Merging.{TextsAreUtf8}
 use Rattle.feed_codec.specs.Refusal.{refused, shifted, first_in, in_payload, first_fault, part_fault, missing_at, end_fault, refusal}
 use Rattle.feed_codec.specs.Parts.{Passed, IsJoined, header_end, PartsDecide}
 use Rattle.feed_codec.proofs.Bytes.{bytes_left, bytes_right, bytes_concat, given_bytes, fields_bytes}
 use Rattle.feed_codec.proofs.Firsts.{none_faultless}
-use Rattle.feed_codec.proofs.ValidTexts.{nothing, neither, unmapped, fine_of}
+use Rattle.feed_codec.proofs.ValidTexts.{nothing, neither, unmapped}
 use Rattle.feed_codec.proofs.SnapshotFaults.{bytes_agree, parts_agree}
 use Rattle.feed_values.specs.Joined.{IsFieldList}
 use Rattle.feed_values.proofs.JoinedFields as joining
@@ -43,20 +42,11 @@ field_lists (p ∷ ps) ok h =
 pub fields_joined : (ps : List (List ℕ)) → IsBytes (concat ps) → Passed ps → fields (concat ps) ≡ flat_map fields ps
 fields_joined ps ok h = joining.fields_joined ps (field_lists ps ok h)
 
--- ---- texts
+-- ---- what a header's payloads mean together
 
 all_append : {A : Type 0} (P : A → Type 0) (xs ys : List A) → AllByRecursion P xs → AllByRecursion P ys → AllByRecursion P (xs ++ ys)
 all_append P [] ys h k = k
 all_append P (x ∷ xs) ys h k = (h.0, all_append P xs ys h.1 k)
-
-fine_all : (ps : List (List ℕ)) → Passed ps → AllByRecursion (TextsAreUtf8 feed_header) (flat_map fields ps)
-fine_all [] h = tt
-fine_all (p ∷ ps) h = all_append (TextsAreUtf8 feed_header) (fields p) (flat_map fields ps) (fine_of feed_header p h.0) (fine_all ps h.1)
-
-pub fine_joined : (parts : List ℕ) → IsBytes parts → IsJoined parts → AllByRecursion (TextsAreUtf8 feed_header) (fields parts)
-fine_joined parts ok j = rw j.2 (rw (fields_joined j.0 (rw j.2 at ok) j.1) (fine_all j.0 j.1))
-
--- ---- what a header's payloads mean together
 
 joins_append : (l m : List WireField) (a b : List ℕ) → Joins (Spells 100) l a → Joins (Spells 100) m b → Joins (Spells 100) (l ++ m) (a ++ b)
 joins_append [] m a b j k = rw j k

@@ -1,24 +1,21 @@
 -- What follows for a whole snapshot where nothing is wrong with its parts.
-use Rattle.std.proofs.Common.{◌≡◌, ℕ, Bool, true, false, cond, eqb, List, [], ◌∷◌, length, Option, Some, None, Result, Ok, Err, refl, ap, ◌∙◌, nat_lt}
+use Rattle.std.proofs.Common.{◌≡◌, ℕ, Bool, true, false, cond, eqb, List, [], ◌∷◌, length, Option, Some, None, Result, Ok, Err, refl, ap, ◌∙◌}
 use Rattle.std.specs.Option.{option_or, option_map}
-use Rattle.std.specs.List.{flat_map, AllByRecursion}
+use Rattle.std.specs.List.{flat_map}
 use Rattle.std.proofs.lemmas.Bool.{eqb-true}
 use Rattle.rt_wire.specs.declared.fault.WireFault.{WireFault}
-use Rattle.rt_wire.specs.Fields.{WireValue, Varint, Fixed64, Len, Group, Fixed32}
 use Rattle.rt_wire.specs.Placed.{PlacedField, placed_fields}
 use Rattle.feed_values.specs.declared.required.Required.{Required}
 use Rattle.feed_values.specs.declared.required.Required.TheVariants as required
 use Rattle.feed_values.specs.Schema.{Needed}
-use Rattle.feed_values.specs.Messages.{feed_message, feed_header, entity}
+use Rattle.feed_values.specs.Messages.{feed_header, entity}
 use Rattle.feed_values.specs.Meaning.{fields, whole_fields, given, in_slot, payload_in, option_case}
-use Rattle.feed_values.specs.Accepted.{missing, missing_message, first_missing, header_fields, is_differential, snapshot_limit}
-use Rattle.feed_codec.specs.declared.refusal.Reason.TheVariants.{MissingField, Differential, TooLarge}
-use Rattle.feed_codec.specs.declared.refusal.Refusal.{Refusal}
+use Rattle.feed_values.specs.Accepted.{missing, missing_message, first_missing, header_fields, is_differential}
+use Rattle.feed_codec.specs.declared.refusal.Reason.TheVariants.{MissingField, Differential}
 use Rattle.feed_codec.specs.declared.paths.Sought.TheVariants as sought
 use Rattle.feed_codec.specs.Paths.{holds, is_sought}
-use Rattle.feed_codec.specs.Merging.{TextsAreUtf8}
-use Rattle.feed_codec.specs.Refusal.{refused, shifted, first_in, in_payload, first_fault, entity_fault, part_fault, missing_at, end_fault, refusal}
-use Rattle.feed_codec.proofs.ValidTexts.{nothing, neither, unmapped, all_fine, no_payload, at_slot, fine_of}
+use Rattle.feed_codec.specs.Refusal.{refused, shifted, first_in, in_payload, first_fault, entity_fault, part_fault, missing_at, end_fault}
+use Rattle.feed_codec.proofs.ValidTexts.{nothing, neither, unmapped}
 use Rattle.feed_codec.proofs.Headers.{header_missing}
 use Rattle.feed_codec.proofs.RequiredSlots.{is_given, any_given}
 
@@ -87,31 +84,3 @@ end_at at bytes e =
     (at_end at (is_given ps) (holds [] (is_sought (sought.Payload 1)) (flat_map fields ps)) d
     ∙ ap (λ b. cond b (cond (holds [] (is_sought (sought.Payload 1)) (flat_map fields ps)) (cond d (Some (refused at Differential)) None) (Some (refused at (MissingField required.Version)))) (Some (refused at (MissingField required.Header))))
     (any_given (in_slot payload_in 1) l))
-
--- ---- texts
-
-fine_part : (number : ℕ) (p : List ℕ) → part_fault number p ≡ nothing → TextsAreUtf8 feed_message (record { number = number; value = Len p })
-fine_part number p e =
-    at_slot (eqb number 1) (AllByRecursion (TextsAreUtf8 feed_header) (fields p)) _ (first_fault feed_header p) (cond (eqb number 2) (entity_fault p) nothing) e (fine_of feed_header p)
-    (λ f. at_slot (eqb number 2) (AllByRecursion (TextsAreUtf8 entity) (fields p)) (Unit {0}) (entity_fault p) nothing f (λ g. fine_of entity p (complete_entity p g).0) (λ g. tt))
-
-fine_field : (number start body stop : ℕ) (x : WireValue) → in_payload part_fault (record { field = record { number = number; value = x }; start = start; body = body; stop = stop }) ≡ nothing
-    → TextsAreUtf8 feed_message (record { number = number; value = x })
-fine_field number start body stop (Len p) e = fine_part number p (unmapped body (part_fault number p) e)
-fine_field number start body stop (Varint n) e = no_payload feed_message (record { number = number; value = Varint n }) refl
-fine_field number start body stop (Fixed64 n) e = no_payload feed_message (record { number = number; value = Fixed64 n }) refl
-fine_field number start body stop (Fixed32 n) e = no_payload feed_message (record { number = number; value = Fixed32 n }) refl
-fine_field number start body stop (Group g) e = no_payload feed_message (record { number = number; value = Group g }) refl
-
-accepted_parts : (b : Bool) (r : Refusal) (o q : Option Refusal) → cond b (Some r) (option_or o q) ≡ nothing → o ≡ nothing
-accepted_parts true r o q e = absurd cc
-accepted_parts false r o q e = (neither o q e).0
-
-pub fine_snapshot : (bytes : List ℕ) → refusal bytes ≡ nothing → AllByRecursion (TextsAreUtf8 feed_message) (fields bytes)
-unfolding refusal fields
-fine_snapshot bytes e =
-    all_fine (TextsAreUtf8 feed_message) (in_payload part_fault) (λ f. fine_field f.field.number f.start f.body f.stop f.field.value) (placed_fields bytes)
-    (accepted_parts (nat_lt snapshot_limit (length bytes)) (refused snapshot_limit TooLarge) (first_in (in_payload part_fault) (placed_fields bytes)) (end_fault (length bytes) (fields bytes)) e)
-
-pub fine_entity : (p : List ℕ) → entity_fault p ≡ nothing → AllByRecursion (TextsAreUtf8 entity) (fields p)
-fine_entity p e = fine_of entity p (complete_entity p e).0

@@ -3,11 +3,8 @@
 use Rattle.std.specs.Prelude.{◌≡◌, ℕ, ℤ, pos, Bool, true, false, List, [], ◌∷◌, ◌++◌, Option, Some, None, Result, Ok, Err, ◌==◌}
 use Rattle.std.specs.Prelude.{if◌then◌else◌}
 use Rattle.std.specs.Option.{option_map, unwrap_or}
-use Rattle.std.specs.Prelude.{IfSome}
-use Rattle.std.specs.Bool.{MatchBool}
-use Rattle.std.specs.List.{AllByRecursion}
-use Rattle.std.specs.Str.{IsUtf8}
-use Rattle.std.specs.declared.alloc.AllocError.{AllocError}
+use Rattle.feed_codec.specs.declared.stopped.Stopped.{Stopped}
+use Rattle.feed_codec.specs.declared.refusal.Refusal.{Refusal}
 use Rattle.rt_wire.specs.Fields.{WireField}
 use Rattle.rt_wire.specs.Fields as wire
 use Rattle.feed_values.specs.Schema as schema
@@ -76,16 +73,10 @@ abbrev pub Took : {A : Type 0} → Option A → A → A → Bool → Type 0
 Took None old new taken = (taken ≡ false) × (new ≡ old)
 Took (Some w) old new taken = (taken ≡ true) × (new ≡ w)
 
--- Every text is UTF-8, in the messages inside too.
-abbrev pub TextsAreUtf8 : Schema → WireField → Type 0
-TextsAreUtf8 schema.end f = Unit {0}
-TextsAreUtf8 (schema.scalar n name presence t rest) f = TextsAreUtf8 rest f
-TextsAreUtf8 (schema.text n name presence rest) f = MatchBool (f.number == n) (IfSome (payload_in f.value) IsUtf8) (TextsAreUtf8 rest f)
-TextsAreUtf8 (schema.message n name presence m rest) f =
-    MatchBool (f.number == n) (IfSome (payload_in f.value) (λ p. AllByRecursion (TextsAreUtf8 m) (fields p))) (TextsAreUtf8 rest f)
-TextsAreUtf8 (schema.repeated n name m rest) f =
-    MatchBool (f.number == n) (IfSome (payload_in f.value) (λ p. AllByRecursion (TextsAreUtf8 m) (fields p))) (TextsAreUtf8 rest f)
+-- Nothing is wrong with a value's payload, where it has one.
+abbrev pub NothingWrong : (List ℕ → Option Refusal) → wire.WireValue → Type 0
+NothingWrong wrong x = (p : List ℕ) → payload_in x ≡ Some p → wrong p ≡ None
 
-abbrev pub TakenOr : {A : Type 0} → Option A → A → A → Result Bool AllocError → Type 0
+abbrev pub TakenOr : {A : Type 0} → Option A → A → A → Result Bool Stopped → Type 0
 TakenOr o old new (Ok taken) = Took o old new taken
 TakenOr o old new (Err e) = Unit {0}

@@ -7,6 +7,8 @@ ghost use Rattle.feed_values.specs.Views.{alert_value, time_range_value, entity_
 use crate::checking::{Checked, check_message, check_text};
 use crate::message::{Message, merge_optional, push_repeated};
 use crate::refusal::Refusal;
+use crate::room::room_for;
+use crate::stopped::Stopped;
 use crate::taking::{take_enum, take_i32, take_text, take_u64};
 use feed_values::{
     Alert, EntitySelector, Items, TimeRange, TranslatedString, TripDescriptor, Unknown,
@@ -46,16 +48,23 @@ impl Message for Alert {
         }
     }
 
+    fn with_room(alloc: Global, payload: &[u8]) -> Result<Alert, AllocError> {
+        let mut message = Alert::empty(alloc);
+        message.active_period = room_for(alloc, payload, 1)?;
+        message.informed_entity = room_for(alloc, payload, 5)?;
+        Ok(message)
+    }
+
     #[tactic(auto, unfolding(crate::specs::Merging::with_fields))]
-    fn merge_slot(&mut self, alloc: Global, field: &RawField<'_>) -> Result<bool, AllocError> {
+    fn merge_slot(&mut self, alloc: Global, field: &RawField<'_>) -> Result<bool, Stopped> {
         match field.number {
-            1 => push_repeated(alloc, &mut self.active_period, field.value),
-            5 => push_repeated(alloc, &mut self.informed_entity, field.value),
-            6 => Ok(take_enum(&mut self.cause, field.value, 1, 12)),
-            7 => Ok(take_enum(&mut self.effect, field.value, 1, 9)),
-            8 => merge_optional(alloc, &mut self.url, field.value),
-            10 => merge_optional(alloc, &mut self.header_text, field.value),
-            11 => merge_optional(alloc, &mut self.description_text, field.value),
+            1 => push_repeated(alloc, &mut self.active_period, &field.value),
+            5 => push_repeated(alloc, &mut self.informed_entity, &field.value),
+            6 => Ok(take_enum(&mut self.cause, &field.value, 1, 12)),
+            7 => Ok(take_enum(&mut self.effect, &field.value, 1, 9)),
+            8 => merge_optional(alloc, &mut self.url, &field.value),
+            10 => merge_optional(alloc, &mut self.header_text, &field.value),
+            11 => merge_optional(alloc, &mut self.description_text, &field.value),
             _ => Ok(false),
         }
     }
@@ -88,10 +97,10 @@ impl Message for TimeRange {
         }
     }
 
-    fn merge_slot(&mut self, _alloc: Global, field: &RawField<'_>) -> Result<bool, AllocError> {
+    fn merge_slot(&mut self, _alloc: Global, field: &RawField<'_>) -> Result<bool, Stopped> {
         match field.number {
-            1 => Ok(take_u64(&mut self.start, field.value)),
-            2 => Ok(take_u64(&mut self.end, field.value)),
+            1 => Ok(take_u64(&mut self.start, &field.value)),
+            2 => Ok(take_u64(&mut self.end, &field.value)),
             _ => Ok(false),
         }
     }
@@ -133,13 +142,13 @@ impl Message for EntitySelector {
     }
 
     #[tactic(auto, unfolding(crate::specs::Merging::with_fields))]
-    fn merge_slot(&mut self, alloc: Global, field: &RawField<'_>) -> Result<bool, AllocError> {
+    fn merge_slot(&mut self, alloc: Global, field: &RawField<'_>) -> Result<bool, Stopped> {
         match field.number {
-            1 => take_text(alloc, &mut self.agency_id, field.value),
-            2 => take_text(alloc, &mut self.route_id, field.value),
-            3 => Ok(take_i32(&mut self.route_type, field.value)),
-            4 => merge_optional(alloc, &mut self.trip, field.value),
-            5 => take_text(alloc, &mut self.stop_id, field.value),
+            1 => take_text(alloc, &mut self.agency_id, &field.value),
+            2 => take_text(alloc, &mut self.route_id, &field.value),
+            3 => Ok(take_i32(&mut self.route_type, &field.value)),
+            4 => merge_optional(alloc, &mut self.trip, &field.value),
+            5 => take_text(alloc, &mut self.stop_id, &field.value),
             _ => Ok(false),
         }
     }

@@ -7,6 +7,7 @@ ghost use Rattle.feed_values.specs.Views.{trip_descriptor_value, vehicle_descrip
 use crate::checking::{Checked, check_text};
 use crate::message::Message;
 use crate::refusal::Refusal;
+use crate::stopped::Stopped;
 use crate::taking::{take_enum, take_text, take_u32};
 use feed_values::{Items, TripDescriptor, Unknown, VehicleDescriptor};
 use rt_wire::RawField;
@@ -40,14 +41,14 @@ impl Message for TripDescriptor {
         }
     }
 
-    fn merge_slot(&mut self, alloc: Global, field: &RawField<'_>) -> Result<bool, AllocError> {
+    fn merge_slot(&mut self, alloc: Global, field: &RawField<'_>) -> Result<bool, Stopped> {
         match field.number {
-            1 => take_text(alloc, &mut self.trip_id, field.value),
-            2 => take_text(alloc, &mut self.start_time, field.value),
-            3 => take_text(alloc, &mut self.start_date, field.value),
-            4 => Ok(take_enum(&mut self.schedule_relationship, field.value, 0, 3)),
-            5 => take_text(alloc, &mut self.route_id, field.value),
-            6 => Ok(take_u32(&mut self.direction_id, field.value)),
+            1 => take_text(alloc, &mut self.trip_id, &field.value),
+            2 => take_text(alloc, &mut self.start_time, &field.value),
+            3 => take_text(alloc, &mut self.start_date, &field.value),
+            4 => Ok(take_enum(&mut self.schedule_relationship, &field.value, 0, 3)),
+            5 => take_text(alloc, &mut self.route_id, &field.value),
+            6 => Ok(take_u32(&mut self.direction_id, &field.value)),
             _ => Ok(false),
         }
     }
@@ -84,11 +85,11 @@ impl Message for VehicleDescriptor {
         }
     }
 
-    fn merge_slot(&mut self, alloc: Global, field: &RawField<'_>) -> Result<bool, AllocError> {
+    fn merge_slot(&mut self, alloc: Global, field: &RawField<'_>) -> Result<bool, Stopped> {
         match field.number {
-            1 => take_text(alloc, &mut self.id, field.value),
-            2 => take_text(alloc, &mut self.label, field.value),
-            3 => take_text(alloc, &mut self.license_plate, field.value),
+            1 => take_text(alloc, &mut self.id, &field.value),
+            2 => take_text(alloc, &mut self.label, &field.value),
+            3 => take_text(alloc, &mut self.license_plate, &field.value),
             _ => Ok(false),
         }
     }

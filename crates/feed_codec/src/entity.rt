@@ -59,7 +59,6 @@ pub fn check_header_part(bytes: &[u8], base: usize) -> Result<(), Refusal>
 /// The entity that a payload means, which `check_entity` has to pass.
 ///
 /// It counts one step, also where memory is wanting, which is its one error. (GTFS Realtime Reference 2.0, "FeedEntity".)
-#[tactic(auto, using(crate::proofs::Snapshots::fine_entity))]
 pub fn decode_entity<L: Ledger>(
     alloc: Global,
     bytes: &[u8],
@@ -71,7 +70,10 @@ pub fn decode_entity<L: Ledger>(
     ensures step { steps.new ≡ steps.old + 1 }
 {
     steps.tick();
-    message_of(alloc, bytes)
+    match message_of(alloc, bytes) {
+        Ok(entity) => Ok(entity),
+        Err(_) => Err(AllocError),
+    }
 }
 
 /// The header that its payloads mean together. `parts` is these payloads, joined, each of which `check_header_part` has to
@@ -84,5 +86,8 @@ pub fn decode_header(alloc: Global, parts: &[u8]) -> Result<FeedHeader, AllocErr
     ensures value { IfOk result (λ header. feed_header_value header ≡ meaning feed_header (fields parts.now)) }
     ensures well_formed { IfOk result (λ header. IsWellFormed feed_header (feed_header_value header)) }
 {
-    message_of(alloc, parts)
+    match message_of(alloc, parts) {
+        Ok(header) => Ok(header),
+        Err(_) => Err(AllocError),
+    }
 }

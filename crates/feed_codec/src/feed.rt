@@ -1,18 +1,45 @@
 //! The snapshot, its header and its entities, as kinds of message.
 ghost use Rattle.std.proofs.Common.{rules};
-ghost use Rattle.feed_codec.specs.Refusal.{payload_fault};
+ghost use Rattle.std.specs.Prelude.{IfOk, map};
+ghost use Rattle.rt_wire.specs.Placed.{value_of};
+ghost use Rattle.feed_codec.specs.Merging.{merged_repeated, with_fields, NothingWrong, TakenOr};
+ghost use Rattle.feed_codec.specs.Refusal.{entity_fault, payload_fault};
+ghost use Rattle.feed_values.specs.Schema.{blank};
 ghost use Rattle.feed_values.specs.Messages.{feed_message, feed_header, entity};
 ghost use Rattle.feed_values.specs.Views.{feed_message_value, feed_header_value, entity_value};
 
 use crate::checking::{Checked, check_message, check_text};
 use crate::message::{Message, merge_optional, merge_required, push_repeated};
+use crate::missing::missing_in_entity;
 use crate::refusal::Refusal;
+use crate::room::room_for;
+use crate::stopped::Stopped;
 use crate::taking::{take_bool, take_enum, take_required_text, take_u64};
 use feed_values::{
     Alert, Entity, FeedHeader, FeedMessage, Items, Text, TripUpdate, Unknown, VehiclePosition,
 };
-use rt_wire::RawField;
+use rt_wire::{RawField, RawValue};
 use std::alloc::{AllocError, Global};
+
+/// Takes the fields of a payload into a new entity. It is stopped where the entity lacks a required slot.
+#[tactic(auto, unfolding(crate::specs::Refusal::entity_fault, crate::specs::Refusal::first_fault))]
+fn push_entity(
+    alloc: Global,
+    held: &mut Items<Entity>,
+    value: &RawValue<'_>,
+) -> Result<bool, Stopped>
+    ensures value { TakenOr (merged_repeated (with_fields entity) (blank entity) (value_of value.now) (map entity_value held.old))
+        (map entity_value held.old) (map entity_value held.new) result }
+    ensures fine { IfOk result (λ _. NothingWrong entity_fault (value_of value.now)) }
+{
+    let RawValue::Len(payload) = *value else {
+        return Ok(false);
+    };
+    if missing_in_entity(payload).is_some() {
+        return Err(Stopped);
+    }
+    push_repeated(alloc, held, value)
+}
 
 impl Message for FeedMessage {
     ghost schema = { feed_message };
@@ -27,11 +54,17 @@ impl Message for FeedMessage {
         }
     }
 
-    #[tactic(auto, unfolding(crate::specs::Merging::with_fields))]
-    fn merge_slot(&mut self, alloc: Global, field: &RawField<'_>) -> Result<bool, AllocError> {
+    fn with_room(alloc: Global, payload: &[u8]) -> Result<FeedMessage, AllocError> {
+        let mut message = FeedMessage::empty(alloc);
+        message.entity = room_for(alloc, payload, 2)?;
+        Ok(message)
+    }
+
+    #[tactic(auto, unfolding(crate::specs::Merging::with_fields, crate::specs::Refusal::first_fault))]
+    fn merge_slot(&mut self, alloc: Global, field: &RawField<'_>) -> Result<bool, Stopped> {
         match field.number {
-            1 => merge_required(alloc, &mut self.header, field.value),
-            2 => push_repeated(alloc, &mut self.entity, field.value),
+            1 => merge_required(alloc, &mut self.header, &field.value),
+            2 => push_entity(alloc, &mut self.entity, &field.value),
             _ => Ok(false),
         }
     }
@@ -68,11 +101,11 @@ impl Message for FeedHeader {
         }
     }
 
-    fn merge_slot(&mut self, alloc: Global, field: &RawField<'_>) -> Result<bool, AllocError> {
+    fn merge_slot(&mut self, alloc: Global, field: &RawField<'_>) -> Result<bool, Stopped> {
         match field.number {
-            1 => take_required_text(alloc, &mut self.gtfs_realtime_version, field.value),
-            2 => Ok(take_enum(&mut self.incrementality, field.value, 0, 1)),
-            3 => Ok(take_u64(&mut self.timestamp, field.value)),
+            1 => take_required_text(alloc, &mut self.gtfs_realtime_version, &field.value),
+            2 => Ok(take_enum(&mut self.incrementality, &field.value, 0, 1)),
+            3 => Ok(take_u64(&mut self.timestamp, &field.value)),
             _ => Ok(false),
         }
     }
@@ -116,13 +149,13 @@ impl Message for Entity {
     }
 
     #[tactic(auto, unfolding(crate::specs::Merging::with_fields))]
-    fn merge_slot(&mut self, alloc: Global, field: &RawField<'_>) -> Result<bool, AllocError> {
+    fn merge_slot(&mut self, alloc: Global, field: &RawField<'_>) -> Result<bool, Stopped> {
         match field.number {
-            1 => take_required_text(alloc, &mut self.id, field.value),
-            2 => Ok(take_bool(&mut self.is_deleted, field.value)),
-            3 => merge_optional(alloc, &mut self.trip_update, field.value),
-            4 => merge_optional(alloc, &mut self.vehicle, field.value),
-            5 => merge_optional(alloc, &mut self.alert, field.value),
+            1 => take_required_text(alloc, &mut self.id, &field.value),
+            2 => Ok(take_bool(&mut self.is_deleted, &field.value)),
+            3 => merge_optional(alloc, &mut self.trip_update, &field.value),
+            4 => merge_optional(alloc, &mut self.vehicle, &field.value),
+            5 => merge_optional(alloc, &mut self.alert, &field.value),
             _ => Ok(false),
         }
     }

@@ -54,7 +54,7 @@ fn take_incrementality(held: &mut Option<u32>, field: RawField<'_>)
     ensures { natural held.new ≡ option_or (last_of (incrementalities ((placed_field field.entry).field ∷ []))) (natural held.old) }
 {
     if field.number == INCREMENTALITY {
-        take_enum(held, field.value, 0, 1);
+        take_enum(held, &field.value, 0, 1);
     }
 }
 

@@ -21,10 +21,12 @@
 //!
 //! - `refusal`: why bytes are no snapshot, and where
 //! - `codec_fault`: a refusal, or want of memory
+//! - `stopped`: that something is wrong, or no memory is left
 //! - `numbers`: the numbers of the slots that are asked for by name
 //! - `taking`: a number or a text into its slot
 //! - `unknown`: a field of no slot, with memory of its own
 //! - `paths`: whether a field is there, at a path of slots
+//! - `room`: lists with the room that they need
 //! - `message`: any message, field by field
 //! - `checking`: the first fault of any message, but for required slots
 //! - `descriptors`, `translation`, `alert`, `vehicle_position`, `trip_update`, `feed`: the kinds of message
@@ -56,7 +58,9 @@ mod missing;
 mod numbers;
 mod paths;
 mod refusal;
+mod room;
 mod snapshot;
+mod stopped;
 mod taking;
 mod translation;
 mod trip_update;

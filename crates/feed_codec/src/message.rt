@@ -1,21 +1,23 @@
 //! Decoding of any message, field by field.
-ghost use Rattle.std.specs.Prelude.{◌≡◌, OnOk, IfOk, IfSome, map};
+ghost use Rattle.std.specs.Prelude.{◌≡◌, ◌++◌, ◌∷◌, [], OnOk, IfOk, map};
 ghost use Rattle.std.specs.Option.{option_map};
-ghost use Rattle.std.specs.List.{AllByRecursion};
-ghost use Rattle.rt_wire.specs.Placed.{placed_field, value_of};
+ghost use Rattle.rt_wire.specs.Placed.{placed_field, placed_fields, value_of};
 ghost use Rattle.feed_values.specs.Schema.{Schema, Value, Optional, Rises, blank};
-ghost use Rattle.feed_values.specs.Meaning.{fields, payload_in, meaning};
+ghost use Rattle.feed_values.specs.Meaning.{fields, meaning};
 ghost use Rattle.feed_values.specs.Views.{unknown_field};
 ghost use Rattle.feed_codec.specs.Merging.{required, kept, merged, merged_message, merged_repeated, with_field, with_fields};
-ghost use Rattle.feed_codec.specs.Merging.{TextsAreUtf8, TakenOr};
+ghost use Rattle.feed_codec.specs.Merging.{NothingWrong, TakenOr};
+ghost use Rattle.feed_codec.specs.Refusal.{first_in, in_payload};
 
+use crate::checking::Checked;
+use crate::stopped::Stopped;
 use crate::unknown::unknown_of;
 use feed_values::{Items, Unknown};
 use rt_wire::{Fields, RawField, RawValue};
 use std::alloc::{AllocError, Global};
 
 /// A kind of message: its slots, and how a value of it takes its fields one by one.
-pub trait Message: Drop {
+pub trait Message: Checked + Drop {
     ghost schema: { Schema };
 
     ghost value: { Self → Value schema };
@@ -24,10 +26,17 @@ pub trait Message: Drop {
     fn empty(alloc: Global) -> Self
         ensures { value result ≡ blank schema };
 
-    /// Takes a field that is of a slot, and says whether it was.
-    fn merge_slot(&mut self, alloc: Global, field: &RawField<'_>) -> Result<bool, AllocError>
-        requires { TextsAreUtf8 schema (placed_field field.now).field }
-        ensures { TakenOr (merged schema (placed_field field.now).field (value self.old)) (value self.old) (value self.new) result };
+    /// A message that holds nothing, with room for each message that a payload gives to one of its lists.
+    fn with_room(alloc: Global, _payload: &[u8]) -> Result<Self, AllocError>
+        ensures { IfOk result (λ message. value message ≡ blank schema) }
+    {
+        Ok(Self::empty(alloc))
+    }
+
+    /// Takes a field that is of a slot, and says whether it was. It is stopped where something is wrong inside the field.
+    fn merge_slot(&mut self, alloc: Global, field: &RawField<'_>) -> Result<bool, Stopped>
+        ensures value { TakenOr (merged schema (placed_field field.now).field (value self.old)) (value self.old) (value self.new) result }
+        ensures fine { IfOk result (λ _. NothingWrong (Self.wrong field.now.number) (value_of field.now.value)) };
 
     /// Keeps a field that is of no slot.
     fn keep(&mut self, field: Unknown) -> Result<(), AllocError>
@@ -42,26 +51,26 @@ fn merge_field<M: Message>(
     alloc: Global,
     message: &mut M,
     field: &RawField<'_>,
-) -> Result<(), AllocError>
-    requires { TextsAreUtf8 M.schema (placed_field field.now).field }
-    ensures { OnOk result (M.value message.new ≡ with_field M.schema (placed_field field.now).field (M.value message.old)) }
+) -> Result<(), Stopped>
+    ensures value { OnOk result (M.value message.new ≡ with_field M.schema (placed_field field.now).field (M.value message.old)) }
+    ensures fine { IfOk result (λ _. NothingWrong (M.wrong field.now.number) (value_of field.now.value)) }
 {
     if message.merge_slot(alloc, field)? {
         return Ok(());
     }
-    message.keep(unknown_of(alloc, field)?)
+    Ok(message.keep(unknown_of(alloc, field)?)?)
 }
 
-/// Takes every field of a list of bytes.
-pub fn merge<M: Message>(alloc: Global, message: &mut M, bytes: &[u8]) -> Result<(), AllocError>
-    requires { AllByRecursion (TextsAreUtf8 M.schema) (fields bytes.now) }
-    ensures { OnOk result (M.value message.new ≡ with_fields M.schema (fields bytes.now) (M.value message.old)) }
+/// Takes every field of a list of bytes, in which nothing is wrong where it isn't stopped.
+pub fn merge<M: Message>(alloc: Global, message: &mut M, bytes: &[u8]) -> Result<(), Stopped>
+    ensures value { OnOk result (M.value message.new ≡ with_fields M.schema (fields bytes.now) (M.value message.old)) }
+    ensures fine { IfOk result (λ _. first_in (in_payload M.wrong) (placed_fields bytes.now) ≡ None) }
 {
     let mut fields = Fields::new(bytes);
     while let Some(field) = fields.next() {
         match field {
             Ok(field) => merge_field(alloc, message, &field)?,
-            Err(_) => return Ok(()),
+            Err(_) => return Err(Stopped),
         }
     }
     Ok(())
@@ -72,21 +81,22 @@ pub fn merge<M: Message>(alloc: Global, message: &mut M, bytes: &[u8]) -> Result
 pub fn merge_optional<M: Message>(
     alloc: Global,
     held: &mut Option<M>,
-    value: RawValue<'_>,
-) -> Result<bool, AllocError>
-    requires { IfSome (payload_in (value_of value)) (λ p. AllByRecursion (TextsAreUtf8 M.schema) (fields p)) }
-    ensures { TakenOr (merged_message Optional (with_fields M.schema) (blank M.schema) (value_of value.entry) (option_map M.value held.old))
+    value: &RawValue<'_>,
+) -> Result<bool, Stopped>
+    ensures value { TakenOr (merged_message Optional (with_fields M.schema) (blank M.schema) (value_of value.now) (option_map M.value held.old))
         (option_map M.value held.old) (option_map M.value held.new) result }
+    ensures fine { IfOk result (λ _. NothingWrong (λ p. first_in (in_payload M.wrong) (placed_fields p)) (value_of value.now)) }
 {
-    let RawValue::Len(payload) = value else {
+    let RawValue::Len(payload) = *value else {
         return Ok(false);
     };
-    let mut message = match held.take() {
-        Some(message) => message,
-        None => M::empty(alloc),
-    };
-    merge(alloc, &mut message, payload)?;
-    *held = Some(message);
+    if held.is_none() {
+        *held = Some(M::with_room(alloc, payload)?);
+    }
+    match held {
+        Some(message) => merge(alloc, message, payload)?,
+        None => unreachable!(),
+    }
     Ok(true)
 }
 
@@ -95,17 +105,23 @@ pub fn merge_optional<M: Message>(
 pub fn merge_required<M: Message>(
     alloc: Global,
     held: &mut M,
-    value: RawValue<'_>,
-) -> Result<bool, AllocError>
-    requires { IfSome (payload_in (value_of value)) (λ p. AllByRecursion (TextsAreUtf8 M.schema) (fields p)) }
-    ensures { TakenOr (merged_message required (with_fields M.schema) (blank M.schema) (value_of value.entry) (M.value held.old))
+    value: &RawValue<'_>,
+) -> Result<bool, Stopped>
+    ensures value { TakenOr (merged_message required (with_fields M.schema) (blank M.schema) (value_of value.now) (M.value held.old))
         (M.value held.old) (M.value held.new) result }
+    ensures fine { IfOk result (λ _. NothingWrong (λ p. first_in (in_payload M.wrong) (placed_fields p)) (value_of value.now)) }
 {
-    let RawValue::Len(payload) = value else {
+    let RawValue::Len(payload) = *value else {
         return Ok(false);
     };
     merge(alloc, held, payload)?;
     Ok(true)
+}
+
+fn append<M: Drop>(held: &mut Items<M>, message: M) -> Result<(), AllocError>
+    ensures { OnOk result (held.new ≡ held.old ++ message ∷ []) }
+{
+    Ok(held.push(message)?)
 }
 
 /// Takes the fields of a payload into a new message of a repeated slot.
@@ -113,28 +129,28 @@ pub fn merge_required<M: Message>(
 pub fn push_repeated<M: Message>(
     alloc: Global,
     held: &mut Items<M>,
-    value: RawValue<'_>,
-) -> Result<bool, AllocError>
-    requires { IfSome (payload_in (value_of value)) (λ p. AllByRecursion (TextsAreUtf8 M.schema) (fields p)) }
-    ensures { TakenOr (merged_repeated (with_fields M.schema) (blank M.schema) (value_of value.entry) (map M.value held.old))
+    value: &RawValue<'_>,
+) -> Result<bool, Stopped>
+    ensures value { TakenOr (merged_repeated (with_fields M.schema) (blank M.schema) (value_of value.now) (map M.value held.old))
         (map M.value held.old) (map M.value held.new) result }
+    ensures fine { IfOk result (λ _. NothingWrong (λ p. first_in (in_payload M.wrong) (placed_fields p)) (value_of value.now)) }
 {
-    let RawValue::Len(payload) = value else {
+    let RawValue::Len(payload) = *value else {
         return Ok(false);
     };
-    let mut message = M::empty(alloc);
+    let mut message = M::with_room(alloc, payload)?;
     merge(alloc, &mut message, payload)?;
-    held.push(message)?;
+    append(held, message)?;
     Ok(true)
 }
 
-/// The message that a list of bytes means.
+/// The message that a list of bytes means, in which nothing is wrong where it isn't stopped.
 #[tactic(auto, using(crate::proofs::Meanings::taken_all))]
-pub fn message_of<M: Message>(alloc: Global, bytes: &[u8]) -> Result<M, AllocError>
-    requires { AllByRecursion (TextsAreUtf8 M.schema) (fields bytes.now) }
-    ensures { IfOk result (λ message. M.value message ≡ meaning M.schema (fields bytes.now)) }
+pub fn message_of<M: Message>(alloc: Global, bytes: &[u8]) -> Result<M, Stopped>
+    ensures value { IfOk result (λ message. M.value message ≡ meaning M.schema (fields bytes.now)) }
+    ensures fine { IfOk result (λ _. first_in (in_payload M.wrong) (placed_fields bytes.now) ≡ None) }
 {
-    let mut message = M::empty(alloc);
+    let mut message = M::with_room(alloc, bytes)?;
     merge(alloc, &mut message, bytes)?;
     Ok(message)
 }

@@ -1,4 +1,4 @@
-//! A whole snapshot: checked without memory, then decoded.
+//! A whole snapshot: checked without memory, or checked and decoded in one walk.
 ghost use Rattle.std.specs.Prelude.{◌≡◌, length, IfOk};
 ghost use Rattle.rt_wire.specs.Placed.{placed_fields};
 ghost use Rattle.feed_values.specs.Messages.{feed_message};
@@ -17,6 +17,7 @@ use crate::message::message_of;
 use crate::numbers::{ENTITY, HEADER, VERSION};
 use crate::paths::{Sought, has};
 use crate::refusal::{Reason, Refusal, Required};
+use crate::stopped::Stopped;
 use feed_values::{FeedHeader, FeedMessage};
 use std::alloc::Global;
 
@@ -72,6 +73,22 @@ pub fn check_snapshot(bytes: &[u8]) -> Result<(), Refusal>
     check_end(bytes)
 }
 
+/// What an accepted snapshot means, in one walk through its bytes. It is stopped where the snapshot isn't accepted.
+#[tactic(auto, unfolding(crate::specs::Refusal::refusal))]
+fn decode_accepted(alloc: Global, bytes: &[u8]) -> Result<FeedMessage, Stopped>
+    ensures accepted { IfOk result (λ _. refusal bytes.now ≡ None) }
+    ensures value { IfOk result (λ message. feed_message_value message ≡ meaning feed_message (fields bytes.now)) }
+{
+    if bytes.len() > SNAPSHOT_LIMIT {
+        return Err(Stopped);
+    }
+    let message = message_of(alloc, bytes)?;
+    match check_end(bytes) {
+        Ok(()) => Ok(message),
+        Err(_) => Err(Stopped),
+    }
+}
+
 /// What the bytes of a snapshot mean, or their first fault, which is that of `check_snapshot`.
 ///
 /// Bytes are refused whatever memory there is: `Memory` is answered only where they are accepted. What is given is well
@@ -81,12 +98,16 @@ pub fn check_snapshot(bytes: &[u8]) -> Result<(), Refusal>
 /// a repeated field each in order. Bits past a number's width are dropped. An enum number that the reference doesn't name,
 /// and each field of no slot, is kept as unknown.
 /// (Protocol Buffers, Encoding, "Last One Wins", "Submessages"; GTFS Realtime Reference 2.0, "Elements".)
-#[tactic(auto, using(crate::proofs::Snapshots::fine_snapshot))]
 pub fn decode(alloc: Global, bytes: &[u8]) -> Result<FeedMessage, CodecFault>
     ensures value { Decodes feed_message_value result (refusal bytes.now) (meaning feed_message (fields bytes.now)) }
     ensures well_formed { IfOk result (λ message. IsWellFormedFeed (feed_message_value message)) }
     ensures memory { result ≡ Err Memory → refusal bytes.now ≡ None }
 {
-    check_snapshot(bytes)?;
-    Ok(message_of(alloc, bytes)?)
+    match decode_accepted(alloc, bytes) {
+        Ok(message) => Ok(message),
+        Err(_) => {
+            check_snapshot(bytes)?;
+            Err(CodecFault::Memory)
+        }
+    }
 }

@@ -1,18 +1,18 @@
 //! Numbers and texts into their slots. Each call says whether the value was of the slot's wire type, and for an enum also
-//! one of its numbers; where it wasn't, the slot stays as it was.
+//! one of its numbers; where it wasn't, the slot stays as it was. A text that isn't UTF-8 is stopped at.
 //! (Protocol Buffers, Encoding, "Last One Wins"; Language Guide proto2, "Scalar Value Types".)
 ghost use Rattle.std.specs.Prelude.{◌≡◌, ◌%◌, ◌^◌, IfOk, IfSome, List, ℕ, pos};
 ghost use Rattle.std.specs.Option.{option_map};
 ghost use Rattle.feed_values.specs.Schema as schema;
-ghost use Rattle.feed_codec.specs.Merging.{required, merged_scalar, merged_text, Took, TakenOr};
-ghost use Rattle.feed_values.specs.Meaning.{payload_in};
-ghost use Rattle.std.specs.Str.{IsUtf8};
+ghost use Rattle.feed_codec.specs.Merging.{required, merged_scalar, merged_text, Took, TakenOr, NothingWrong};
+ghost use Rattle.feed_codec.specs.Refusal.{text_fault};
 ghost use Rattle.feed_values.specs.Views.{natural, truth};
 ghost use Rattle.rt_wire.specs.Placed.{value_of};
 
+use crate::stopped::Stopped;
 use feed_values::Text;
 use rt_wire::RawValue;
-use std::alloc::{AllocError, Global};
+use std::alloc::Global;
 
 fn low_32(n: u64) -> u32
     ensures { result ≡ n % 2 ^ 32 }
@@ -20,51 +20,51 @@ fn low_32(n: u64) -> u32
     (n % (1 << 32)) as u32
 }
 
-pub fn take_bool(held: &mut Option<bool>, value: RawValue<'_>) -> bool
-    ensures { Took (merged_scalar schema.Optional schema.Bool (value_of value.entry)) (truth held.old) (truth held.new) result }
+pub fn take_bool(held: &mut Option<bool>, value: &RawValue<'_>) -> bool
+    ensures { Took (merged_scalar schema.Optional schema.Bool (value_of value.now)) (truth held.old) (truth held.new) result }
 {
-    let RawValue::Varint(n) = value else {
+    let RawValue::Varint(n) = *value else {
         return false;
     };
     *held = Some(n != 0);
     true
 }
 
-pub fn take_u32(held: &mut Option<u32>, value: RawValue<'_>) -> bool
-    ensures { Took (merged_scalar schema.Optional schema.U32 (value_of value.entry)) (natural held.old) (natural held.new) result }
+pub fn take_u32(held: &mut Option<u32>, value: &RawValue<'_>) -> bool
+    ensures { Took (merged_scalar schema.Optional schema.U32 (value_of value.now)) (natural held.old) (natural held.new) result }
 {
-    let RawValue::Varint(n) = value else {
+    let RawValue::Varint(n) = *value else {
         return false;
     };
     *held = Some(low_32(n));
     true
 }
 
-pub fn take_i32(held: &mut Option<i32>, value: RawValue<'_>) -> bool
-    ensures { Took (merged_scalar schema.Optional schema.I32 (value_of value.entry)) held.old held.new result }
+pub fn take_i32(held: &mut Option<i32>, value: &RawValue<'_>) -> bool
+    ensures { Took (merged_scalar schema.Optional schema.I32 (value_of value.now)) held.old held.new result }
 {
-    let RawValue::Varint(n) = value else {
+    let RawValue::Varint(n) = *value else {
         return false;
     };
     *held = Some(low_32(n).cast_signed());
     true
 }
 
-pub fn take_i64(held: &mut Option<i64>, value: RawValue<'_>) -> bool
-    ensures { Took (merged_scalar schema.Optional schema.I64 (value_of value.entry)) held.old held.new result }
+pub fn take_i64(held: &mut Option<i64>, value: &RawValue<'_>) -> bool
+    ensures { Took (merged_scalar schema.Optional schema.I64 (value_of value.now)) held.old held.new result }
 {
-    let RawValue::Varint(n) = value else {
+    let RawValue::Varint(n) = *value else {
         return false;
     };
     *held = Some(n.cast_signed());
     true
 }
 
-pub fn take_enum(held: &mut Option<u32>, value: RawValue<'_>, low: u32, high: u32) -> bool
-    ensures { Took (merged_scalar schema.Optional (schema.Enum low high) (value_of value.entry))
+pub fn take_enum(held: &mut Option<u32>, value: &RawValue<'_>, low: u32, high: u32) -> bool
+    ensures { Took (merged_scalar schema.Optional (schema.Enum low high) (value_of value.now))
         (natural held.old) (natural held.new) result }
 {
-    let RawValue::Varint(n) = value else {
+    let RawValue::Varint(n) = *value else {
         return false;
     };
     let n = low_32(n);
@@ -78,12 +78,12 @@ pub fn take_enum(held: &mut Option<u32>, value: RawValue<'_>, low: u32, high: u3
 pub fn take_text(
     alloc: Global,
     held: &mut Option<Text>,
-    value: RawValue<'_>,
-) -> Result<bool, AllocError>
-    requires { IfSome (payload_in (value_of value)) IsUtf8 }
-    ensures { TakenOr (merged_text schema.Optional (value_of value.entry)) held.old held.new result }
+    value: &RawValue<'_>,
+) -> Result<bool, Stopped>
+    ensures value { TakenOr (merged_text schema.Optional (value_of value.now)) held.old held.new result }
+    ensures fine { IfOk result (λ _. NothingWrong text_fault (value_of value.now)) }
 {
-    let RawValue::Len(payload) = value else {
+    let RawValue::Len(payload) = *value else {
         return Ok(false);
     };
     match str::from_utf8(payload) {
@@ -93,17 +93,17 @@ pub fn take_text(
             *held = Some(text);
             Ok(true)
         }
-        Err(_) => unreachable!(),
+        Err(_) => Err(Stopped),
     }
 }
 
 pub fn take_required_text(
     alloc: Global,
     held: &mut Text,
-    value: RawValue<'_>,
-) -> Result<bool, AllocError>
-    requires { IfSome (payload_in (value_of value)) IsUtf8 }
-    ensures { TakenOr (merged_text required (value_of value.entry)) held.old held.new result }
+    value: &RawValue<'_>,
+) -> Result<bool, Stopped>
+    ensures value { TakenOr (merged_text required (value_of value.now)) held.old held.new result }
+    ensures fine { IfOk result (λ _. NothingWrong text_fault (value_of value.now)) }
 {
     let mut text = None;
     let taken = take_text(alloc, &mut text, value)?;
@@ -113,40 +113,40 @@ pub fn take_required_text(
     Ok(taken)
 }
 
-pub fn take_u64(held: &mut Option<u64>, value: RawValue<'_>) -> bool
-    ensures { Took (merged_scalar schema.Optional schema.U64 (value_of value.entry)) (natural held.old) (natural held.new) result }
+pub fn take_u64(held: &mut Option<u64>, value: &RawValue<'_>) -> bool
+    ensures { Took (merged_scalar schema.Optional schema.U64 (value_of value.now)) (natural held.old) (natural held.new) result }
 {
-    let RawValue::Varint(n) = value else {
+    let RawValue::Varint(n) = *value else {
         return false;
     };
     *held = Some(n);
     true
 }
 
-pub fn take_bits32(held: &mut Option<u32>, value: RawValue<'_>) -> bool
-    ensures { Took (merged_scalar schema.Optional schema.Bits32 (value_of value.entry)) (natural held.old) (natural held.new) result }
+pub fn take_bits32(held: &mut Option<u32>, value: &RawValue<'_>) -> bool
+    ensures { Took (merged_scalar schema.Optional schema.Bits32 (value_of value.now)) (natural held.old) (natural held.new) result }
 {
-    let RawValue::Fixed32(n) = value else {
+    let RawValue::Fixed32(n) = *value else {
         return false;
     };
     *held = Some(n);
     true
 }
 
-pub fn take_bits64(held: &mut Option<u64>, value: RawValue<'_>) -> bool
-    ensures { Took (merged_scalar schema.Optional schema.Bits64 (value_of value.entry)) (natural held.old) (natural held.new) result }
+pub fn take_bits64(held: &mut Option<u64>, value: &RawValue<'_>) -> bool
+    ensures { Took (merged_scalar schema.Optional schema.Bits64 (value_of value.now)) (natural held.old) (natural held.new) result }
 {
-    let RawValue::Fixed64(n) = value else {
+    let RawValue::Fixed64(n) = *value else {
         return false;
     };
     *held = Some(n);
     true
 }
 
-pub fn take_required_bits32(held: &mut u32, value: RawValue<'_>) -> bool
-    ensures { Took (merged_scalar required schema.Bits32 (value_of value.entry)) (pos held.old) (pos held.new) result }
+pub fn take_required_bits32(held: &mut u32, value: &RawValue<'_>) -> bool
+    ensures { Took (merged_scalar required schema.Bits32 (value_of value.now)) (pos held.old) (pos held.new) result }
 {
-    let RawValue::Fixed32(n) = value else {
+    let RawValue::Fixed32(n) = *value else {
         return false;
     };
     *held = n;

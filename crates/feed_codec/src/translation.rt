@@ -7,6 +7,8 @@ ghost use Rattle.feed_values.specs.Views.{translated_string_value, translation_v
 use crate::checking::{Checked, check_message, check_text};
 use crate::message::{Message, push_repeated};
 use crate::refusal::Refusal;
+use crate::room::room_for;
+use crate::stopped::Stopped;
 use crate::taking::{take_required_text, take_text};
 use feed_values::{Items, Text, TranslatedString, Translation, Unknown};
 use rt_wire::RawField;
@@ -36,10 +38,16 @@ impl Message for TranslatedString {
         }
     }
 
+    fn with_room(alloc: Global, payload: &[u8]) -> Result<TranslatedString, AllocError> {
+        let mut message = TranslatedString::empty(alloc);
+        message.translation = room_for(alloc, payload, 1)?;
+        Ok(message)
+    }
+
     #[tactic(auto, unfolding(crate::specs::Merging::with_fields))]
-    fn merge_slot(&mut self, alloc: Global, field: &RawField<'_>) -> Result<bool, AllocError> {
+    fn merge_slot(&mut self, alloc: Global, field: &RawField<'_>) -> Result<bool, Stopped> {
         match field.number {
-            1 => push_repeated(alloc, &mut self.translation, field.value),
+            1 => push_repeated(alloc, &mut self.translation, &field.value),
             _ => Ok(false),
         }
     }
@@ -75,10 +83,10 @@ impl Message for Translation {
         }
     }
 
-    fn merge_slot(&mut self, alloc: Global, field: &RawField<'_>) -> Result<bool, AllocError> {
+    fn merge_slot(&mut self, alloc: Global, field: &RawField<'_>) -> Result<bool, Stopped> {
         match field.number {
-            1 => take_required_text(alloc, &mut self.text, field.value),
-            2 => take_text(alloc, &mut self.language, field.value),
+            1 => take_required_text(alloc, &mut self.text, &field.value),
+            2 => take_text(alloc, &mut self.language, &field.value),
             _ => Ok(false),
         }
     }

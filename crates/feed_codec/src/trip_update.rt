@@ -7,6 +7,8 @@ ghost use Rattle.feed_values.specs.Views.{trip_update_value, stop_time_update_va
 use crate::checking::{Checked, check_message, check_text};
 use crate::message::{Message, merge_optional, merge_required, push_repeated};
 use crate::refusal::Refusal;
+use crate::room::room_for;
+use crate::stopped::Stopped;
 use crate::taking::{take_enum, take_i32, take_i64, take_text, take_u32, take_u64};
 use feed_values::{
     Items, StopTimeEvent, StopTimeUpdate, TripDescriptor, TripUpdate, Unknown, VehicleDescriptor,
@@ -44,14 +46,20 @@ impl Message for TripUpdate {
         }
     }
 
+    fn with_room(alloc: Global, payload: &[u8]) -> Result<TripUpdate, AllocError> {
+        let mut message = TripUpdate::empty(alloc);
+        message.stop_time_update = room_for(alloc, payload, 2)?;
+        Ok(message)
+    }
+
     #[tactic(auto, unfolding(crate::specs::Merging::with_fields))]
-    fn merge_slot(&mut self, alloc: Global, field: &RawField<'_>) -> Result<bool, AllocError> {
+    fn merge_slot(&mut self, alloc: Global, field: &RawField<'_>) -> Result<bool, Stopped> {
         match field.number {
-            1 => merge_required(alloc, &mut self.trip, field.value),
-            2 => push_repeated(alloc, &mut self.stop_time_update, field.value),
-            3 => merge_optional(alloc, &mut self.vehicle, field.value),
-            4 => Ok(take_u64(&mut self.timestamp, field.value)),
-            5 => Ok(take_i32(&mut self.delay, field.value)),
+            1 => merge_required(alloc, &mut self.trip, &field.value),
+            2 => push_repeated(alloc, &mut self.stop_time_update, &field.value),
+            3 => merge_optional(alloc, &mut self.vehicle, &field.value),
+            4 => Ok(take_u64(&mut self.timestamp, &field.value)),
+            5 => Ok(take_i32(&mut self.delay, &field.value)),
             _ => Ok(false),
         }
     }
@@ -93,13 +101,13 @@ impl Message for StopTimeUpdate {
     }
 
     #[tactic(auto, unfolding(crate::specs::Merging::with_fields))]
-    fn merge_slot(&mut self, alloc: Global, field: &RawField<'_>) -> Result<bool, AllocError> {
+    fn merge_slot(&mut self, alloc: Global, field: &RawField<'_>) -> Result<bool, Stopped> {
         match field.number {
-            1 => Ok(take_u32(&mut self.stop_sequence, field.value)),
-            2 => merge_optional(alloc, &mut self.arrival, field.value),
-            3 => merge_optional(alloc, &mut self.departure, field.value),
-            4 => take_text(alloc, &mut self.stop_id, field.value),
-            5 => Ok(take_enum(&mut self.schedule_relationship, field.value, 0, 2)),
+            1 => Ok(take_u32(&mut self.stop_sequence, &field.value)),
+            2 => merge_optional(alloc, &mut self.arrival, &field.value),
+            3 => merge_optional(alloc, &mut self.departure, &field.value),
+            4 => take_text(alloc, &mut self.stop_id, &field.value),
+            5 => Ok(take_enum(&mut self.schedule_relationship, &field.value, 0, 2)),
             _ => Ok(false),
         }
     }
@@ -133,11 +141,11 @@ impl Message for StopTimeEvent {
         }
     }
 
-    fn merge_slot(&mut self, _alloc: Global, field: &RawField<'_>) -> Result<bool, AllocError> {
+    fn merge_slot(&mut self, _alloc: Global, field: &RawField<'_>) -> Result<bool, Stopped> {
         match field.number {
-            1 => Ok(take_i32(&mut self.delay, field.value)),
-            2 => Ok(take_i64(&mut self.time, field.value)),
-            3 => Ok(take_i32(&mut self.uncertainty, field.value)),
+            1 => Ok(take_i32(&mut self.delay, &field.value)),
+            2 => Ok(take_i64(&mut self.time, &field.value)),
+            3 => Ok(take_i32(&mut self.uncertainty, &field.value)),
             _ => Ok(false),
         }
     }

@@ -7,6 +7,7 @@ ghost use Rattle.feed_values.specs.Views.{vehicle_position_value, position_value
 use crate::checking::{Checked, check_message, check_text};
 use crate::message::{Message, merge_optional};
 use crate::refusal::Refusal;
+use crate::stopped::Stopped;
 use crate::taking::{
     take_bits32, take_bits64, take_enum, take_required_bits32, take_text, take_u32, take_u64,
 };
@@ -50,17 +51,17 @@ impl Message for VehiclePosition {
     }
 
     #[tactic(auto, unfolding(crate::specs::Merging::with_fields))]
-    fn merge_slot(&mut self, alloc: Global, field: &RawField<'_>) -> Result<bool, AllocError> {
+    fn merge_slot(&mut self, alloc: Global, field: &RawField<'_>) -> Result<bool, Stopped> {
         match field.number {
-            1 => merge_optional(alloc, &mut self.trip, field.value),
-            2 => merge_optional(alloc, &mut self.position, field.value),
-            3 => Ok(take_u32(&mut self.current_stop_sequence, field.value)),
-            4 => Ok(take_enum(&mut self.current_status, field.value, 0, 2)),
-            5 => Ok(take_u64(&mut self.timestamp, field.value)),
-            6 => Ok(take_enum(&mut self.congestion_level, field.value, 0, 4)),
-            7 => take_text(alloc, &mut self.stop_id, field.value),
-            8 => merge_optional(alloc, &mut self.vehicle, field.value),
-            9 => Ok(take_enum(&mut self.occupancy_status, field.value, 0, 6)),
+            1 => merge_optional(alloc, &mut self.trip, &field.value),
+            2 => merge_optional(alloc, &mut self.position, &field.value),
+            3 => Ok(take_u32(&mut self.current_stop_sequence, &field.value)),
+            4 => Ok(take_enum(&mut self.current_status, &field.value, 0, 2)),
+            5 => Ok(take_u64(&mut self.timestamp, &field.value)),
+            6 => Ok(take_enum(&mut self.congestion_level, &field.value, 0, 4)),
+            7 => take_text(alloc, &mut self.stop_id, &field.value),
+            8 => merge_optional(alloc, &mut self.vehicle, &field.value),
+            9 => Ok(take_enum(&mut self.occupancy_status, &field.value, 0, 6)),
             _ => Ok(false),
         }
     }
@@ -96,13 +97,13 @@ impl Message for Position {
         }
     }
 
-    fn merge_slot(&mut self, _alloc: Global, field: &RawField<'_>) -> Result<bool, AllocError> {
+    fn merge_slot(&mut self, _alloc: Global, field: &RawField<'_>) -> Result<bool, Stopped> {
         match field.number {
-            1 => Ok(take_required_bits32(&mut self.latitude, field.value)),
-            2 => Ok(take_required_bits32(&mut self.longitude, field.value)),
-            3 => Ok(take_bits32(&mut self.bearing, field.value)),
-            4 => Ok(take_bits64(&mut self.odometer, field.value)),
-            5 => Ok(take_bits32(&mut self.speed, field.value)),
+            1 => Ok(take_required_bits32(&mut self.latitude, &field.value)),
+            2 => Ok(take_required_bits32(&mut self.longitude, &field.value)),
+            3 => Ok(take_bits32(&mut self.bearing, &field.value)),
+            4 => Ok(take_bits64(&mut self.odometer, &field.value)),
+            5 => Ok(take_bits32(&mut self.speed, &field.value)),
             _ => Ok(false),
         }
     }
