@@ -179,51 +179,74 @@ fn a_zone_file_is_read(rt: HostRuntime) -> Result<(), Fail> {
     Ok(())
 }
 
+// The town with a zone file that is none, and one that is too large.
+fn odd_zones(alloc: Global) -> Result<MemoryFiles, AllocError> {
+    let mut files = town(alloc, b"")?;
+    files.add("z", b"Nope")?;
+    let large = vec![in alloc; 0; 1_048_577]?;
+    files.add("large", &large)?;
+    Ok(files)
+}
+
+// Whether a zone is refused by this text, and nothing is written.
+fn refuses(alloc: Global, folder: &str, zone: ZoneWord, want: &str) -> Result<bool, AllocError> {
+    let ended = predicted(alloc, folder, &zone, 0, &mut odd_zones(alloc)?, 4000)?;
+    Ok(has_ended(&ended, Status::Refused, "", want))
+}
+
 #[test]
 fn a_refused_zone_is_told(rt: HostRuntime) -> Result<(), Fail> {
     let alloc = rt.alloc();
-    let mut files = town(alloc, b"")?;
-    files.add("z", b"Nope")?;
-    files.add("large", &vec![in alloc; 0; 1_048_577]?)?;
-    let cases = [
-        (rule(alloc, "Nope")?, "refused: zone: bad zone\n"),
-        (file(alloc, "z")?, "refused: zone: bad zone\n"),
-        (file(alloc, "no")?, "refused: no: missing file\n"),
-        (file(alloc, "large")?, "refused: large: too large\n"),
-    ];
-    for (zone, want) in &cases {
-        let ended = predicted(alloc, "town", zone, 0, &mut files, 4000)?;
-        assert!(rt; has_ended(&ended, Status::Refused, "", want), "{want}");
-    }
-    let ended = predicted(alloc, "no", &rule(alloc, "Nope")?, 0, &mut files, 4000)?;
+    let bad = "refused: zone: bad zone\n";
+    assert!(rt; refuses(alloc, "town", rule(alloc, "Nope")?, bad)?);
+    assert!(rt; refuses(alloc, "town", file(alloc, "z")?, bad)?);
     assert!(rt;
-        has_ended(
-            &ended,
-            Status::Refused,
-            "",
-            "refused: no/agency.txt: missing file\n"
-        )
+        refuses(
+            alloc,
+            "town",
+            file(alloc, "no")?,
+            "refused: no: missing file\n"
+        )?
+    );
+    assert!(rt;
+        refuses(
+            alloc,
+            "town",
+            file(alloc, "large")?,
+            "refused: large: too large\n"
+        )?
     );
     Ok(())
 }
 
 #[test]
+fn a_refused_timetable_is_told_before_a_refused_zone(rt: HostRuntime) -> Result<(), Fail> {
+    let alloc = rt.alloc();
+    let want = "refused: no/agency.txt: missing file\n";
+    assert!(rt; refuses(alloc, "no", rule(alloc, "Nope")?, want)?);
+    Ok(())
+}
+
+// Whether a run with room for so many bytes fills it with the front of a table, and tells the fault.
+fn fills(alloc: Global, room: usize, table: &str) -> Result<bool, Fail> {
+    let held = bytes_of(alloc, DATED)?;
+    let zone = rule(alloc, NEW_YORK)?;
+    let ended = predicted(alloc, "town", &zone, 0, &mut town(alloc, &held)?, room)?;
+    Ok(
+        ended.status == Status::WriteFault
+            && ended.out.written().len() == room
+            && table.as_bytes().starts_with(ended.out.written())
+            && ended.err.written() == b"write fault\n".as_slice(),
+    )
+}
+
+#[test]
 fn what_is_written_before_a_fault_is_a_front_of_the_table(rt: HostRuntime) -> Result<(), Fail> {
     let alloc = rt.alloc();
-    let held = bytes_of(alloc, DATED)?;
-    let want = format!(in alloc; "{HEAD}{DATED_ROWS}")?;
-    for room in [0, 50, 105, 200] {
-        let ended = predicted(
-            alloc,
-            "town",
-            &rule(alloc, NEW_YORK)?,
-            0,
-            &mut town(alloc, &held)?,
-            room,
-        )?;
-        assert_eq!(rt; ended.status, Status::WriteFault, "{room}");
-        assert_eq!(rt; ended.out.written(), &want.as_bytes()[..room], "{room}");
-        assert_eq!(rt; ended.err.written(), b"write fault\n".as_slice(), "{room}");
-    }
+    let table = format!(in alloc; "{HEAD}{DATED_ROWS}")?;
+    assert!(rt; fills(alloc, 0, table.as_str())?);
+    assert!(rt; fills(alloc, 50, table.as_str())?);
+    assert!(rt; fills(alloc, 106, table.as_str())?);
+    assert!(rt; fills(alloc, 200, table.as_str())?);
     Ok(())
 }
