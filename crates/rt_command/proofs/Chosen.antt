@@ -1,5 +1,5 @@
 -- What carrying out one of several reports ends with.
-use Rattle.std.proofs.Common.{◌≡◌, ◌≢◌, ℕ, List, [], ◌⊎◌, inl, inr, refl, sym, ap, ◌∙◌, subst, Some, None, IfSome}
+use Rattle.std.proofs.Common.{◌≡◌, ◌≢◌, ℕ, List, [], inl, inr, refl, sym, ap, ◌∙◌, subst, Some, None, IfSome}
 use Rattle.std.specs.declared.option.Option.{Option}
 use Rattle.std.specs.Io.KnownBytes.{append_known}
 use Rattle.rt_outside.specs.Causes.{Rose}
@@ -18,7 +18,7 @@ use Rattle.rt_command.specs.declared.zone_input_fault.ZoneInputFault.{ZoneInputF
 use Rattle.rt_command.specs.declared.zone_input_fault.ZoneInputFault.TheVariants as input
 use Rattle.rt_command.specs.declared.zone_word.ZoneWord.{ZoneWord}
 use Rattle.rt_command.specs.Carried.{CarriesOut}
-use Rattle.rt_command.specs.Faults.{TellsFault, IsErrorText, says_bad_zone, says_refused, Says, SaysFault, SaysLoadFault, IsCarriedOut, IsReported}
+use Rattle.rt_command.specs.Faults.{TellsFault, says_bad_zone, says_refused, Says, SaysFault, SaysLoadFault, IsCarriedOut, IsReported}
 use Rattle.rt_command.specs.Inputs.{refusal_text}
 use Rattle.rt_command.specs.Outside.{Outside, outside}
 use Rattle.rt_command.specs.Predicted.{CarriesOutOne, Extent, MayBegin, SaysZoneFault, Whole, WritesPart, WritesWhole}

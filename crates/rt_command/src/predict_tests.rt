@@ -14,10 +14,7 @@ const TOWN: [(&str, &[u8]); 6] = [
     ("town/agency.txt", b"agency_id\nA1\n"),
     ("town/stops.txt", b"stop_id\nS1\nS2\n"),
     ("town/routes.txt", b"route_id\nR1\n"),
-    (
-        "town/trips.txt",
-        b"route_id,service_id,trip_id\nR1,WK,T2\n",
-    ),
+    ("town/trips.txt", b"route_id,service_id,trip_id\nR1,WK,T2\n"),
     (
         "town/stop_times.txt",
         b"trip_id,arrival_time,departure_time,stop_id,stop_sequence\n\
@@ -75,13 +72,16 @@ fn predicted(
 }
 
 fn has_ended(ended: &Ended, status: Status, out: &str, err: &str) -> bool {
-    ended.status == status && ended.out.written() == out.as_bytes() && ended.err.written() == err.as_bytes()
+    ended.status == status
+        && ended.out.written() == out.as_bytes()
+        && ended.err.written() == err.as_bytes()
 }
 
 // New York by its rule.
 const NEW_YORK: &str = "EST5EDT,M3.2.0,M11.1.0";
 
-const HEAD: &str = "entity,occurrence,trip_id,service_day,stop_sequence,stop_id,event,scheduled,predicted,delay,source,state\n";
+const HEAD: &str =
+    "entity,occurrence,trip_id,service_day,stop_sequence,stop_id,event,scheduled,predicted,delay,source,state\n";
 
 // An arrival 60 s late at the first stop, of the night in which New York's clocks are set back.
 const DATED: &str = "H121d0a016e1a180a0e0a0254321a083230323331313035120608011202083c";
@@ -102,7 +102,8 @@ n,0,T2,20231114,2,S2,arrival,1700028600,1700028660,60,0,predicted\n\
 n,0,T2,20231114,2,S2,departure,1700028600,1700028660,60,0,predicted\n";
 
 // Both, with an entity of the same id and no trip update between them, and then one of a trip that isn't known.
-const MANY: &str = "H121d0a016e1a180a0e0a0254321a083230323331313035120608011202083c12030a016e12130a016e1a0e0a040a025432120608011202083c12130a016d1a0e0a040a0258391206080112021005";
+const MANY: &str =
+    "H121d0a016e1a180a0e0a0254321a083230323331313035120608011202083c12030a016e12130a016e1a0e0a040a025432120608011202083c12130a016d1a0e0a040a0258391206080112021005";
 
 const MANY_ROWS: &str = "\
 n,2,T2,20231114,1,S1,arrival,1700027400,1700027460,60,0,predicted\n\
@@ -117,7 +118,14 @@ const BARE: &str = "H12030a016e";
 fn writes(alloc: Global, snapshot: &str, zone: &str, rows: [&str; 2]) -> Result<bool, Fail> {
     let held = bytes_of(alloc, snapshot)?;
     let want = format!(in alloc; "{HEAD}{}{}", rows[0], rows[1])?;
-    let ended = predicted(alloc, "town", &rule(alloc, zone)?, 1_700_026_200, &mut town(alloc, &held)?, 4000)?;
+    let ended = predicted(
+        alloc,
+        "town",
+        &rule(alloc, zone)?,
+        1_700_026_200,
+        &mut town(alloc, &held)?,
+        4000,
+    )?;
     Ok(has_ended(&ended, Status::Clean, want.as_str(), ""))
 }
 
@@ -132,18 +140,27 @@ fn a_table_has_the_rows_of_each_trip_update(rt: HostRuntime) -> Result<(), Fail>
     Ok(())
 }
 
-const REFUSED: &str = "{\"at\":0,\"line\":\"refused\",\"reason\":\"MissingField(header)\",\"row\":0}\n";
+const REFUSED: &str =
+    "{\"at\":0,\"line\":\"refused\",\"reason\":\"MissingField(header)\",\"row\":0}\n";
 
 #[test]
 fn a_refused_snapshot_is_its_line_alone(rt: HostRuntime) -> Result<(), Fail> {
     let alloc = rt.alloc();
-    let ended = predicted(alloc, "town", &rule(alloc, NEW_YORK)?, 0, &mut town(alloc, b"")?, 4000)?;
+    let ended = predicted(
+        alloc,
+        "town",
+        &rule(alloc, NEW_YORK)?,
+        0,
+        &mut town(alloc, b"")?,
+        4000,
+    )?;
     assert!(rt; has_ended(&ended, Status::Found, REFUSED, ""));
     Ok(())
 }
 
 // UTC as a zone file in hexadecimal digits.
-const UTC: &str = "545a69663200000000000000000000000000000000000000000000000000000000000000000000010000000400000000000055544300545a696632000000000000000000000000000000000000000000000000000000000000000000000100000004000000000000555443000a555443300a";
+const UTC: &str =
+    "545a69663200000000000000000000000000000000000000000000000000000000000000000000010000000400000000000055544300545a696632000000000000000000000000000000000000000000000000000000000000000000000100000004000000000000555443000a555443300a";
 
 const UTC_ROWS: &str = "\
 n,0,T2,20231105,1,S1,arrival,1699231800,1699231860,60,0,predicted\n\
@@ -162,37 +179,74 @@ fn a_zone_file_is_read(rt: HostRuntime) -> Result<(), Fail> {
     Ok(())
 }
 
+// The town with a zone file that is none, and one that is too large.
+fn odd_zones(alloc: Global) -> Result<MemoryFiles, AllocError> {
+    let mut files = town(alloc, b"")?;
+    files.add("z", b"Nope")?;
+    let large = vec![in alloc; 0; 1_048_577]?;
+    files.add("large", &large)?;
+    Ok(files)
+}
+
+// Whether a zone is refused by this text, and nothing is written.
+fn refuses(alloc: Global, folder: &str, zone: ZoneWord, want: &str) -> Result<bool, AllocError> {
+    let ended = predicted(alloc, folder, &zone, 0, &mut odd_zones(alloc)?, 4000)?;
+    Ok(has_ended(&ended, Status::Refused, "", want))
+}
+
 #[test]
 fn a_refused_zone_is_told(rt: HostRuntime) -> Result<(), Fail> {
     let alloc = rt.alloc();
-    let mut files = town(alloc, b"")?;
-    files.add("z", b"Nope")?;
-    files.add("large", &vec![in alloc; 0; 1_048_577]?)?;
-    let cases = [
-        (rule(alloc, "Nope")?, "refused: zone: bad zone\n"),
-        (file(alloc, "z")?, "refused: zone: bad zone\n"),
-        (file(alloc, "no")?, "refused: no: missing file\n"),
-        (file(alloc, "large")?, "refused: large: too large\n"),
-    ];
-    for (zone, want) in &cases {
-        let ended = predicted(alloc, "town", zone, 0, &mut files, 4000)?;
-        assert!(rt; has_ended(&ended, Status::Refused, "", want), "{want}");
-    }
-    let ended = predicted(alloc, "no", &rule(alloc, "Nope")?, 0, &mut files, 4000)?;
-    assert!(rt; has_ended(&ended, Status::Refused, "", "refused: no/agency.txt: missing file\n"));
+    let bad = "refused: zone: bad zone\n";
+    assert!(rt; refuses(alloc, "town", rule(alloc, "Nope")?, bad)?);
+    assert!(rt; refuses(alloc, "town", file(alloc, "z")?, bad)?);
+    assert!(rt;
+        refuses(
+            alloc,
+            "town",
+            file(alloc, "no")?,
+            "refused: no: missing file\n"
+        )?
+    );
+    assert!(rt;
+        refuses(
+            alloc,
+            "town",
+            file(alloc, "large")?,
+            "refused: large: too large\n"
+        )?
+    );
     Ok(())
+}
+
+#[test]
+fn a_refused_timetable_is_told_before_a_refused_zone(rt: HostRuntime) -> Result<(), Fail> {
+    let alloc = rt.alloc();
+    let want = "refused: no/agency.txt: missing file\n";
+    assert!(rt; refuses(alloc, "no", rule(alloc, "Nope")?, want)?);
+    Ok(())
+}
+
+// Whether a run with room for so many bytes fills it with the front of a table, and tells the fault.
+fn fills(alloc: Global, room: usize, table: &str) -> Result<bool, Fail> {
+    let held = bytes_of(alloc, DATED)?;
+    let zone = rule(alloc, NEW_YORK)?;
+    let ended = predicted(alloc, "town", &zone, 0, &mut town(alloc, &held)?, room)?;
+    Ok(
+        ended.status == Status::WriteFault
+            && ended.out.written().len() == room
+            && table.as_bytes().starts_with(ended.out.written())
+            && ended.err.written() == b"write fault\n".as_slice(),
+    )
 }
 
 #[test]
 fn what_is_written_before_a_fault_is_a_front_of_the_table(rt: HostRuntime) -> Result<(), Fail> {
     let alloc = rt.alloc();
-    let held = bytes_of(alloc, DATED)?;
-    let want = format!(in alloc; "{HEAD}{DATED_ROWS}")?;
-    for room in [0, 50, 105, 200] {
-        let ended = predicted(alloc, "town", &rule(alloc, NEW_YORK)?, 0, &mut town(alloc, &held)?, room)?;
-        assert_eq!(rt; ended.status, Status::WriteFault, "{room}");
-        assert_eq!(rt; ended.out.written(), &want.as_bytes()[..room], "{room}");
-        assert_eq!(rt; ended.err.written(), b"write fault\n".as_slice(), "{room}");
-    }
+    let table = format!(in alloc; "{HEAD}{DATED_ROWS}")?;
+    assert!(rt; fills(alloc, 0, table.as_str())?);
+    assert!(rt; fills(alloc, 50, table.as_str())?);
+    assert!(rt; fills(alloc, 106, table.as_str())?);
+    assert!(rt; fills(alloc, 200, table.as_str())?);
     Ok(())
 }

@@ -1,4 +1,4 @@
-use Rattle.std.proofs.Common.{◌≡◌, ◌+◌, ap, ◌∙◌, sym, subst, cond, bytes_eq, map, take, arith}
+use Rattle.std.proofs.Common.{◌+◌, ap, ◌∙◌, sym, subst, cond, bytes_eq, map, take, arith}
 use Rattle.std.specs.Io.KnownBytes.{append_known}
 use Rattle.feed_values.specs.Views.{entity_value}
 use Rattle.judging.specs.Seats.{count_id, count_in}
