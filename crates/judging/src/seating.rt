@@ -9,7 +9,11 @@ use std::alloc::{AllocError, Global};
 use std::collections::BTreeMap;
 
 /// How often an id was counted; then it is counted once more. Where it was counted 2^32 - 1 times, it answers want of memory.
-pub fn count_one(alloc: Global, counts: &mut BTreeMap<String, u32>, id: &str) -> Result<u32, AllocError>
+pub fn count_one(
+    alloc: Global,
+    counts: &mut BTreeMap<String, u32>,
+    id: &str,
+) -> Result<u32, AllocError>
     ensures before { IfOk result (λ n. n ≡ count_in counts.old id.now) }
     ensures after { OnOk result ((other : List ℕ) → count_in counts.new other ≡ (if bytes_eq id.now other then 1 else 0) + count_in counts.old other) }
 {

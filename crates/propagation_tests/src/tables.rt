@@ -68,7 +68,8 @@ fn has_rows(
 
 #[test]
 fn the_head_names_the_columns(rt: HostRuntime) -> Result<(), Fail> {
-    let want = "entity,occurrence,trip_id,service_day,stop_sequence,stop_id,event,scheduled,predicted,delay,source,state\n";
+    let want =
+        "entity,occurrence,trip_id,service_day,stop_sequence,stop_id,event,scheduled,predicted,delay,source,state\n";
     assert_eq!(rt; prediction_head(rt.alloc())?.as_slice(), want.as_bytes());
     Ok(())
 }
@@ -113,7 +114,16 @@ fn event_rows() -> &'static str {
 
 #[test]
 fn each_event_is_a_row(rt: HostRuntime) -> Result<(), Fail> {
-    assert!(rt; has_rows(rt.alloc(), "e\"1", 2, trip(None, None), events(), event_rows())?);
+    assert!(rt;
+        has_rows(
+            rt.alloc(),
+            "e\"1",
+            2,
+            trip(None, None),
+            events(),
+            event_rows()
+        )?
+    );
     Ok(())
 }
 
@@ -154,8 +164,26 @@ fn early() -> &'static str {
 
 #[test]
 fn a_delay_of_nothing_is_no_blank(rt: HostRuntime) -> Result<(), Fail> {
-    assert!(rt; has_rows(rt.alloc(), "e", 0, trip(Some(0), Some(0)), no_data(), on_time())?);
-    assert!(rt; has_rows(rt.alloc(), "e", 0, trip(Some(-15), None), no_data(), early())?);
+    assert!(rt;
+        has_rows(
+            rt.alloc(),
+            "e",
+            0,
+            trip(Some(0), Some(0)),
+            no_data(),
+            on_time()
+        )?
+    );
+    assert!(rt;
+        has_rows(
+            rt.alloc(),
+            "e",
+            0,
+            trip(Some(-15), None),
+            no_data(),
+            early()
+        )?
+    );
     Ok(())
 }
 
@@ -186,7 +214,25 @@ fn canceled_row() -> &'static str {
 
 #[test]
 fn outside_scheduled_mode_there_is_no_service_day(rt: HostRuntime) -> Result<(), Fail> {
-    assert!(rt; has_rows(rt.alloc(), "", u32::MAX, trip(None, Some(1)), added(), added_rows())?);
-    assert!(rt; has_rows(rt.alloc(), "e", 1, trip(None, Some(3)), added(), canceled_row())?);
+    assert!(rt;
+        has_rows(
+            rt.alloc(),
+            "",
+            u32::MAX,
+            trip(None, Some(1)),
+            added(),
+            added_rows()
+        )?
+    );
+    assert!(rt;
+        has_rows(
+            rt.alloc(),
+            "e",
+            1,
+            trip(None, Some(3)),
+            added(),
+            canceled_row()
+        )?
+    );
     Ok(())
 }

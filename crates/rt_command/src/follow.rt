@@ -44,9 +44,7 @@ pub fn follow<F: Files, S: Sink, E: Sink, D: Ledger, T: Ledger>(
     match folder {
         None => {
             let timetable = Timetable::absent(alloc);
-            follow_list(
-                alloc, timetable, list, files, out, err, decodes, tests,
-            )
+            follow_list(alloc, timetable, list, files, out, err, decodes, tests)
         }
         Some(folder) => {
             let folder = folder.as_str();

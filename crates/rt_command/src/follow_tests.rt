@@ -10,7 +10,8 @@ const LIST: &[u8] = b"0,1700000010,f\n0,1700000010,g\n0,1700000010,h\n1,17000000
 
 // What `follow` writes of the list up to its third row: the first snapshot is accepted, the second cut off, and the third has an
 // entity more and the timestamp of the first.
-const FRONT: &str = "{\"bounded\":0,\"entities\":0,\"feed\":0,\"line\":\"accepted\",\"moment\":1700000010,\"paired\":0,\"row\":0,\"snapshot\":0,\"tested\":0}
+const FRONT: &str =
+    "{\"bounded\":0,\"entities\":0,\"feed\":0,\"line\":\"accepted\",\"moment\":1700000010,\"paired\":0,\"row\":0,\"snapshot\":0,\"tested\":0}
 {\"at\":1,\"line\":\"refused\",\"reason\":\"Overrun\",\"row\":1}
 {\"bounded\":1,\"entities\":1,\"feed\":0,\"line\":\"accepted\",\"moment\":1700000010,\"paired\":1,\"row\":2,\"snapshot\":1,\"tested\":1}
 ";

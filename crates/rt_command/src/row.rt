@@ -106,7 +106,5 @@ pub fn judge_row<F: Files, D: Ledger, T: Ledger>(
     ensures not_write { IsErrOf result Fault.Write → ⊥ }
 {
     let found = read_kept(alloc, files, row.path.as_str())?;
-    Ok(judge(
-        alloc, telling, engine, number, row, found, decodes, tests,
-    )?)
+    Ok(judge(alloc, telling, engine, number, row, found, decodes, tests)?)
 }

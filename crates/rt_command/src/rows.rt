@@ -60,9 +60,7 @@ pub fn follow_rows<F: Files, S: Sink, D: Ledger, T: Ledger>(
     let mut error = false;
     for (index, row) in rows.iter().enumerate() {
         let number = index as u64;
-        let end = match judge_row(
-            alloc, telling, engine, number, row, files, decodes, tests,
-        ) {
+        let end = match judge_row(alloc, telling, engine, number, row, files, decodes, tests) {
             Ok(end) => end,
             Err(fault) => return Err(RowFault { row: index, fault }),
         };
