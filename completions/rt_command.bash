@@ -2,7 +2,7 @@
 
 # Of each command: how many files it takes, and its options.
 declare -gA _rt_command_takes=(
-    [check]='16 --timetable --now'
+    [check]='1 --timetable --now'
     [follow]='0 --timetable --list'
     [predict]='1 --timetable --zone-rule --zone-file --now'
     [show]='1'
