@@ -19,7 +19,6 @@ CASES = [
     ("check --timetable ", ["city"]),
     ("check fe", ["feed.pb"]),
     ("check feed.pb --", []),
-    ("check feed.pb li", []),
     ("follow --", ["--list", "--timetable"]),
     ("follow --list l", ["list.csv"]),
     ("predict --", ["--now", "--timetable", "--zone-file", "--zone-rule"]),
