@@ -355,7 +355,7 @@ def pictures(browser, folder, kinds):
 def main():
     follow, standing = reports.followed()
     kinds = {"accepted": reports.only_accepted(), "refused": reports.only_refused(), "levels": reports.all_levels(), "follow": follow,
-             "hostile": reports.hostile(), "broken": reports.broken(), "many": reports.many(), "empty": []}
+             "hostile": reports.hostile(), "broken": reports.broken(), "far": reports.far_ahead(), "many": reports.many(), "empty": []}
     said = {name: Said(lines) for name, lines in kinds.items()}
     expect("what was made stands", len(said["follow"].standing), standing)
     browser = Browser()
@@ -377,6 +377,8 @@ def main():
         check_width(browser, kinds["follow"], "follow")
         check_width(browser, kinds["hostile"], "hostile")
         check_time(browser, kinds["follow"], said["follow"])
+        load(browser, kinds["far"], "#view=time")
+        expect("great moments have a plot", browser.ask("document.querySelectorAll('#time svg path').length"), 2)
         check_drop(browser, kinds["levels"], said["levels"])
         check_many(browser, kinds["many"], said["many"])
         expect("no fault, no breach of the policy, nothing fetched", browser.complaints(), [])

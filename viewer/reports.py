@@ -107,6 +107,15 @@ def many(count=100000):
     return lines
 
 
+def far_ahead():
+    """Moments at the end of 64 bits, where floating-point numbers have gaps."""
+    lines = []
+    for snapshot in range(3):
+        moment = 18446744073709547520 + 2048 * snapshot
+        lines += [accepted(snapshot, 0, snapshot, moment, 1), newer("a", moment + 9, head=moment, since=0, kind="opened")]
+    return lines
+
+
 HOSTILE = ['<script>document.title="hit"</script>', '"><img src=x onerror=document.title="hit">', "'; document.title='hit'; '", "</script><b>bold</b>",
            "a\nb\tc", "\u202egnp.exe", "&lt;&amp;", "__proto__", "constructor", " ", "x" * 100000]
 
