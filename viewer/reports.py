@@ -111,7 +111,7 @@ def far_ahead():
     """Moments at the end of 64 bits, where floating-point numbers have gaps."""
     lines = []
     for snapshot in range(3):
-        moment = 18446744073709547520 + 2048 * snapshot
+        moment = 18446744073709543424 + 2048 * snapshot
         lines += [accepted(snapshot, 0, snapshot, moment, 1), newer("a", moment + 9, head=moment, since=0, kind="opened")]
     return lines
 
