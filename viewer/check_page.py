@@ -12,7 +12,9 @@ from pathlib import Path
 import reports
 from browser import Browser
 
-PAGE = (Path(__file__).resolve().parent / "report.html").as_uri()
+HERE = Path(__file__).resolve().parent
+PAGE = (HERE / "report.html").as_uri()
+DOCS = HERE.parent / "docs"
 LEVELS = {"E": "error", "X": "own error", "W": "warning"}
 faults = []
 
@@ -334,6 +336,16 @@ def check_hostile(browser, lines, said):
         expect("the policy forbids " + attempt, browser.ask("(() => { try { %s; return 'let in'; } catch { return 'refused'; } })()" % attempt), "refused")
 
 
+def check_sentences(browser):
+    """Each fact as its sentence, and no ask of docs/rules.md without one."""
+    load(browser, reports.every_fact(), "#view=findings")
+    for (ask, keys, value, words), shown in zip(reports.WORDS, rows(browser, "finding-rows")):
+        expect("the words of " + ask, shown[shown.index("of feed 0") + 9:], words + ".")
+    asks = [names for names in re.findall(r"^\| (`[a-z_, `]+`) \|", (DOCS / "rules.md").read_text(), re.M)]
+    asks = {name for names in asks for name in re.findall("`([a-z_]+)`", names)}
+    expect("asks that are tried", asks - {ask for ask, *_ in reports.WORDS}, set())
+
+
 def check_drop(browser, lines, said):
     browser.open(PAGE)
     browser.ask("""(() => { const data = new DataTransfer(); data.items.add(new File([%s], 'dropped'));
@@ -373,6 +385,7 @@ def main():
         expect("a report cut off", "cut off" in text(browser, "#doubts"), True)
         check_filters(browser, kinds["levels"], said["levels"])
         check_keys(browser, kinds["levels"])
+        check_sentences(browser)
         check_contrast(browser, kinds["levels"], "levels")
         check_width(browser, kinds["follow"], "follow")
         check_width(browser, kinds["hostile"], "hostile")

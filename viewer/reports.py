@@ -107,6 +107,59 @@ def many(count=100000):
     return lines
 
 
+# Facts, and what the page is to say of each.
+WORDS = [
+    ("cell", ["trip_update.timestamp"], 1700000000, "trip_update.timestamp is 1700000000 (2023-11-14 22:13:20 UTC)"),
+    ("cell", ["trip_update.timestamp"], 99999999999999, "trip_update.timestamp is 99999999999999"),
+    ("cell", ["trip_update.timestamp"], None, "trip_update.timestamp is missing"),
+    ("cell", ["vehicle"], 1, "vehicle is there"),
+    ("cell", ["trip_update.stop_time_update[3]"], 1, "trip_update.stop_time_update[3] is there"),
+    ("cell", ["trip_update.stop_time_update[3].arrival"], 1, "trip_update.stop_time_update[3].arrival is there"),
+    ("cell", ["trip_update.stop_time_update[3].stop_sequence"], 1, "trip_update.stop_time_update[3].stop_sequence is 1"),
+    ("cell", ["trip_update.stop_time_update[3].arrival.delay"], -60, "trip_update.stop_time_update[3].arrival.delay is -60 s"),
+    ("cell", ["trip_update.stop_time_update[3].schedule_relationship"], 2, "trip_update.stop_time_update[3].schedule_relationship is 2 (NO_DATA)"),
+    ("cell", ["vehicle.trip.schedule_relationship"], 2, "vehicle.trip.schedule_relationship is 2 (UNSCHEDULED)"),
+    ("cell", ["trip_update.stop_time_update"], 0, "trip_update.stop_time_update has 0 items"),
+    ("cell", ["alert.informed_entity"], 1, "alert.informed_entity has 1 item"),
+    ("cell", ["is_deleted"], 0, "is_deleted is false"),
+    ("cell", ["vehicle.stop_id"], "S1", "vehicle.stop_id is “S1”"),
+    ("head_now", ["header.gtfs_realtime_version"], "2.0", "header.gtfs_realtime_version is “2.0”"),
+    ("head_before", ["header.timestamp"], None, "in the snapshot before, header.timestamp was missing"),
+    ("moment", [], 1700000000, "the snapshot was taken at 1700000000 (2023-11-14 22:13:20 UTC)"),
+    ("occurrence", [], 2, "2 entities with its id stand before it"),
+    ("entities_changed", [], 1, "the entities changed"),
+    ("trip_known", ["T"], 0, "the timetable has no trip “T”"),
+    ("route_known", ["R"], 0, "the timetable has no route “R”"),
+    ("agency_known", ["A"], 1, "the timetable has agency “A”"),
+    ("stop_kind", ["S"], 1, "stop “S” has location_type 1"),
+    ("stop_kind", ["S"], None, "the timetable has no stop “S”"),
+    ("trip_route", ["T"], "R", "the timetable has trip “T” on route “R”"),
+    ("trip_direction", ["T"], 0, "the timetable gives trip “T” the direction_id 0"),
+    ("trip_exact", ["T"], 0, "trip “T” runs by headway, with exact_times 0"),
+    ("trip_exact", ["T"], None, "trip “T” has no headways"),
+    ("on_grid", ["T", "08:15:00"], 0, "“08:15:00” is not on the headway grid of trip “T”"),
+    ("visits_twice", ["T"], 1, "trip “T” visits a stop twice"),
+    ("first_arrival", ["T"], 90610, "trip “T” first arrives at 25:10:10"),
+    ("stop_at", ["T", "3"], "S3", "at stop_sequence 3 of trip “T” the timetable has the stop “S3”"),
+    ("stop_at", ["T", "3"], None, "at stop_sequence 3 of trip “T” the timetable has no stop"),
+    ("arrival_at", ["T", "3"], 28800, "at stop_sequence 3 of trip “T” the timetable has the arrival 08:00:00"),
+    ("departure_at", ["T", "3"], None, "at stop_sequence 3 of trip “T” the timetable has no departure"),
+    ("first_vehicle", ["vehicle", "T"], "v2", "the first vehicle position of trip “T” that names a vehicle names “v2”"),
+    ("has_pair", ["trip_update", "T", "v1"], 0, "no trip update gives trip “T” the vehicle “v1”"),
+    ("any_row", ["vehicle"], 1, "there are vehicle positions"),
+    ("has_trip", ["vehicle", "T"], 0, "no vehicle position is of trip “T”"),
+    ("has_vehicle", ["trip_update", "v"], 0, "no trip update is of vehicle “v”"),
+    ("first_id", ["0", "v"], "p", "the first position of vehicle “v” in feed 0 is entity “p”"),
+    ("first_occurrence", ["0", "v"], 1, "that is its occurrence 1"),
+    ("new_ask", ["T"], 7, "new_ask(“T”) is 7"),
+    ("cell", ["two", "keys"], None, "cell(“two”, “keys”) is null"),
+]
+
+
+def every_fact():
+    return [accepted(0, entities=1)] + [finding("E999", "id", [fact(ask, *keys, value=value)], "n%d" % n) for n, (ask, keys, value, words) in enumerate(WORDS)]
+
+
 def far_ahead():
     """Moments at the end of 64 bits, where floating-point numbers have gaps."""
     lines = []
