@@ -6,6 +6,7 @@
 # Needs the Debian packages chromium, python3, mandoc, bash, zsh and fish. It is run by hand, and is no part of `rt ci`. Where
 # PICTURES names a folder, the page's screens are put there; else reports and screens go away with their temporary folder.
 set -u
+export PYTHONDONTWRITEBYTECODE=1
 cd "$(dirname "$0")/.." || exit 1
 rc=0
 
