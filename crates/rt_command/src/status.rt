@@ -19,7 +19,7 @@ pub enum Status {
     WriteFault,
     /// No memory was found.
     Memory,
-    /// The timetable, the list or the JSON file was refused.
+    /// The timetable, the zone, the list or the JSON file was refused.
     Refused,
 }
 
