@@ -5,9 +5,9 @@ use Rattle.std.specs.List.{filter, find, list_any}
 use Rattle.rule_core.specs.declared.kind.Kind.{Kind}
 use Rattle.rule_core.specs.declared.kind.Kind.TheVariants.{Vehicle}
 use Rattle.rule_core.specs.Pairs.{PairRow, is_of, is_id, has_trip, has_vehicle, has_pair, first_vehicle, first_key}
-use Rattle.pairing_rules.specs.Numbers.{Numbers, AreApart, number_of, is_number, blank}
+use Rattle.pairing_rules.specs.Numbers.{Numbers, AreApart, number_of, is_number, where_given, where_missing}
 use Rattle.pairing_rules.specs.Slots.{seen_at, shown, vehicle_in, key_in}
-use Rattle.pairing_rules.specs.Index.{AreIndexed, belongs, trip_number, vehicle_number, blank_number, no_number}
+use Rattle.pairing_rules.specs.Index.{AreIndexed, belongs, paired_number, unpaired_number, vehicle_number}
 use Rattle.pairing_rules.proofs.Lists.{any-seen, find-seen, any-same, find-same, any-or, any-none, find-nothing, all-then}
 use Rattle.pairing_rules.proofs.Places.{and-true}
 use Rattle.pairing_rules.proofs.Numbering.{number-id, unnamed}
@@ -17,34 +17,29 @@ use Rattle.pairing_rules.specs.declared.entry.Entry.{Entry}
 any-all : (p : PairRow → Bool) (rows : List PairRow) → list_any (λ _. true) (map shown (filter p rows)) ≡ list_any p rows
 any-all p rows = sym (any-seen shown p (λ _. true) rows) ∙ any-same (λ r. p r && true) p (λ r. and-true (p r)) rows
 
-swap : (a b c : Bool) → (a && b && c) ≡ (b && a && c)
-swap true true c = refl
-swap true false c = refl
-swap false true c = refl
-swap false false c = refl
+swap : (a b : Bool) → (a && b) ≡ (b && a)
+swap true true = refl
+swap true false = refl
+swap false true = refl
+swap false false = refl
 
-halves : (a b : Bool) (v : Option (List ℕ)) → ((a && b && is_number 0 (Some (blank v))) || (a && b && is_number 1 (Some (blank v)))) ≡ (b && a)
-halves true true None = refl
-halves true true (Some v) = refl
-halves true false None = refl
-halves true false (Some v) = refl
-halves false true v = refl
-halves false false v = refl
+or-nothing : (a : Bool) → (a || false) ≡ a
+or-nothing true = refl
+or-nothing false = refl
 
-alone : (a b : Bool) → (a && b && is_number 0 (Some 0)) ≡ (b && a)
-alone true true = refl
-alone true false = refl
-alone false true = refl
-alone false false = refl
+and-false : (a : Bool) → (a && false) ≡ false
+and-false true = refl
+and-false false = refl
 
-given-first : (a b : Bool) (v : Option (List ℕ)) → ((a && b && is_number 0 (Some (blank v))) && true) ≡ (b && a && is_some v)
-given-first true true None = refl
-given-first true true (Some v) = refl
-given-first true false v = refl
-given-first false true v = refl
-given-first false false v = refl
+halves : (n : ℕ) (m : Option ℕ) (v : Option (List ℕ)) (b : Bool) → ((is_number n (where_given v m) && b) || (is_number n (where_missing v m) && b)) ≡ (b && is_number n m)
+halves n m None b = swap (is_number n m) b
+halves n m (Some v) b = or-nothing (is_number n m && b) ∙ swap (is_number n m) b
 
-of-feed : (a b f : Bool) → ((a && b && is_number 0 (Some 0)) && f) ≡ (b && f && a)
+given-first : (n : ℕ) (m : Option ℕ) (v : Option (List ℕ)) (b : Bool) → ((is_number n (where_given v m) && b) && true) ≡ (b && is_number n m && is_some v)
+given-first n m None b = sym (and-false (b && is_number n m))
+given-first n m (Some v) b = and-true (is_number n m && b) ∙ swap (is_number n m) b ∙ sym (and-true (b && is_number n m))
+
+of-feed : (a b f : Bool) → ((a && b) && f) ≡ (b && f && a)
 of-feed true true true = refl
 of-feed true true false = refl
 of-feed true false f = refl
@@ -52,36 +47,25 @@ of-feed false true true = refl
 of-feed false true false = refl
 of-feed false false f = refl
 
-and-false : (a : Bool) → (a && false) ≡ false
-and-false true = refl
-and-false false = refl
-
 module _ (rows : List PairRow) (trips vehicles : Numbers) (s t u : BTreeSet Entry) (i : AreIndexed rows trips vehicles s t u) (next_trip next_vehicle : ℕ) (a : AreApart trips next_trip) (b : AreApart vehicles next_vehicle) where
-  pub trip-asked : (trip : List ℕ) (n : ℕ) → trips trip ≡ Some n → (k : Kind) → (list_any (λ _. true) (seen_at s n k 0) || list_any (λ _. true) (seen_at s n k 1)) ≡ has_trip rows k trip
+  pub trip-asked : (trip : List ℕ) (n : ℕ) → trips trip ≡ Some n → (k : Kind) → (list_any (λ _. true) (seen_at s n k) || list_any (λ _. true) (seen_at t n k)) ≡ has_trip rows k trip
   trip-asked trip n h k =
-      ap (λ x. list_any (λ _. true) x || list_any (λ _. true) (seen_at s n k 1)) (i.trips_under n k 0)
-      ∙ ap (λ x. list_any (λ _. true) (map shown (filter (belongs (trip_number trips) blank_number n k 0) rows)) || list_any (λ _. true) x) (i.trips_under n k 1)
-      ∙ ap (λ x. x || list_any (λ _. true) (map shown (filter (belongs (trip_number trips) blank_number n k 1) rows))) (any-all (belongs (trip_number trips) blank_number n k 0) rows)
-      ∙ ap (λ x. list_any (belongs (trip_number trips) blank_number n k 0) rows || x) (any-all (belongs (trip_number trips) blank_number n k 1) rows)
-      ∙ any-or (belongs (trip_number trips) blank_number n k 0) (belongs (trip_number trips) blank_number n k 1) rows
-      ∙ any-same _ (λ r. is_of k r && is_id trip r.trip) (λ r. halves (is_number n (number_of trips r.trip)) (is_of k r) r.vehicle ∙ ap (λ x. is_of k r && x) (number-id trips next_trip a trip n h r.trip)) rows
+      let p = belongs (paired_number trips) n k in
+      let q = belongs (unpaired_number trips) n k in
+      ap (λ x. list_any (λ _. true) x || list_any (λ _. true) (seen_at t n k)) (i.paired_under n k) ∙ ap (λ x. list_any (λ _. true) (map shown (filter p rows)) || list_any (λ _. true) x) (i.unpaired_under n k)
+      ∙ ap (λ x. x || list_any (λ _. true) (map shown (filter q rows))) (any-all p rows) ∙ ap (λ x. list_any p rows || x) (any-all q rows) ∙ any-or p q rows
+      ∙ any-same _ (λ r. is_of k r && is_id trip r.trip) (λ r. halves n (number_of trips r.trip) r.vehicle (is_of k r) ∙ ap (λ x. is_of k r && x) (number-id trips next_trip a trip n h r.trip)) rows
 
   pub trip-unasked : (trip : List ℕ) → trips trip ≡ None → (k : Kind) → has_trip rows k trip ≡ false
   trip-unasked trip h k = any-none _ rows (all-then _ _ (λ r g. ap (λ x. is_of k r && x) (unnamed trips trip h r.trip g) ∙ and-false (is_of k r)) rows i.trips_named)
 
-  pub vehicle-asked : (vehicle : List ℕ) (n : ℕ) → vehicles vehicle ≡ Some n → (k : Kind) → list_any (λ _. true) (seen_at t n k 0) ≡ has_vehicle rows k vehicle
+  pub vehicle-asked : (vehicle : List ℕ) (n : ℕ) → vehicles vehicle ≡ Some n → (k : Kind) → list_any (λ _. true) (seen_at u n k) ≡ has_vehicle rows k vehicle
   vehicle-asked vehicle n h k =
-      ap (list_any (λ _. true)) (i.vehicles_under n k 0) ∙ any-all (belongs (vehicle_number vehicles) no_number n k 0) rows
-      ∙ any-same _ (λ r. is_of k r && is_id vehicle r.vehicle) (λ r. alone (is_number n (number_of vehicles r.vehicle)) (is_of k r) ∙ ap (λ x. is_of k r && x) (number-id vehicles next_vehicle b vehicle n h r.vehicle)) rows
+      ap (list_any (λ _. true)) (i.vehicles_under n k) ∙ any-all (belongs (vehicle_number vehicles) n k) rows
+      ∙ any-same _ (λ r. is_of k r && is_id vehicle r.vehicle) (λ r. swap (is_number n (number_of vehicles r.vehicle)) (is_of k r) ∙ ap (λ x. is_of k r && x) (number-id vehicles next_vehicle b vehicle n h r.vehicle)) rows
 
   pub vehicle-unasked : (vehicle : List ℕ) → vehicles vehicle ≡ None → (k : Kind) → has_vehicle rows k vehicle ≡ false
   vehicle-unasked vehicle h k = any-none _ rows (all-then _ _ (λ r g. ap (λ x. is_of k r && x) (unnamed vehicles vehicle h r.vehicle g) ∙ and-false (is_of k r)) rows i.vehicles_named)
-
-  pub pair-asked : (trip vehicle : List ℕ) (n m : ℕ) → trips trip ≡ Some n → vehicles vehicle ≡ Some m → (k : Kind) → list_any (λ _. true) (seen_at u n k m) ≡ has_pair rows k trip vehicle
-  pair-asked trip vehicle n m h g k =
-      ap (list_any (λ _. true)) (i.both_under n k m) ∙ any-all (belongs (trip_number trips) (vehicle_number vehicles) n k m) rows
-      ∙ any-same _ (λ r. is_of k r && is_id trip r.trip && is_id vehicle r.vehicle) (λ r. swap (is_number n (number_of trips r.trip)) (is_of k r) (is_number m (number_of vehicles r.vehicle))
-      ∙ ap (λ x. is_of k r && x && is_number m (number_of vehicles r.vehicle)) (number-id trips next_trip a trip n h r.trip) ∙ ap (λ x. is_of k r && is_id trip r.trip && x) (number-id vehicles next_vehicle b vehicle m g r.vehicle)) rows
 
   pub pair-no-trip : (trip vehicle : List ℕ) → trips trip ≡ None → (k : Kind) → has_pair rows k trip vehicle ≡ false
   pair-no-trip trip vehicle h k = any-none _ rows (all-then _ _ (λ r g. ap (λ x. is_of k r && x && is_id vehicle r.vehicle) (unnamed trips trip h r.trip g) ∙ ap (λ x. x && is_id vehicle r.vehicle) (and-false (is_of k r))) rows i.trips_named)
@@ -97,21 +81,23 @@ module _ (rows : List PairRow) (trips vehicles : Numbers) (s t u : BTreeSet Entr
   key-shown None = refl
   key-shown (Some r) = refl
 
-  pub first-vehicle-asked : (trip : List ℕ) (n : ℕ) → trips trip ≡ Some n → (k : Kind) → option_and_then vehicle_in (find (λ _. true) (seen_at s n k 0)) ≡ first_vehicle rows k trip
+  pub first-vehicle-asked : (trip : List ℕ) (n : ℕ) → trips trip ≡ Some n → (k : Kind) → option_and_then vehicle_in (find (λ _. true) (seen_at s n k)) ≡ first_vehicle rows k trip
   first-vehicle-asked trip n h k =
-      ap (λ x. option_and_then vehicle_in (find (λ _. true) x)) (i.trips_under n k 0)
-      ∙ ap (option_and_then vehicle_in) (sym (find-seen shown (belongs (trip_number trips) blank_number n k 0) (λ _. true) rows)) ∙ vehicle-shown (find (λ r. belongs (trip_number trips) blank_number n k 0 r && true) rows)
-      ∙ ap (option_and_then (λ r. r.vehicle)) (find-same (λ r. belongs (trip_number trips) blank_number n k 0 r && true) (λ r. is_of k r && is_id trip r.trip && is_some r.vehicle) (λ r. given-first (is_number n (number_of trips r.trip)) (is_of k r) r.vehicle
+      let p = belongs (paired_number trips) n k in
+      ap (λ x. option_and_then vehicle_in (find (λ _. true) x)) (i.paired_under n k)
+      ∙ ap (option_and_then vehicle_in) (sym (find-seen shown p (λ _. true) rows)) ∙ vehicle-shown (find (λ r. p r && true) rows)
+      ∙ ap (option_and_then (λ r. r.vehicle)) (find-same (λ r. p r && true) (λ r. is_of k r && is_id trip r.trip && is_some r.vehicle) (λ r. given-first n (number_of trips r.trip) r.vehicle (is_of k r)
       ∙ ap (λ x. is_of k r && x && is_some r.vehicle) (number-id trips next_trip a trip n h r.trip)) rows)
 
   pub first-vehicle-unasked : (trip : List ℕ) → trips trip ≡ None → (k : Kind) → first_vehicle rows k trip ≡ None
   first-vehicle-unasked trip h k =
       ap (option_and_then (λ r. r.vehicle)) (find-nothing _ rows (all-then _ _ (λ r g. ap (λ x. is_of k r && x && is_some r.vehicle) (unnamed trips trip h r.trip g) ∙ ap (λ x. x && is_some r.vehicle) (and-false (is_of k r))) rows i.trips_named))
 
-  pub first-key-asked : (vehicle : List ℕ) (n : ℕ) → vehicles vehicle ≡ Some n → (feed : ℕ) → option_and_then key_in (find (λ x. x.feed == feed) (seen_at t n Vehicle 0)) ≡ first_key rows feed vehicle
+  pub first-key-asked : (vehicle : List ℕ) (n : ℕ) → vehicles vehicle ≡ Some n → (feed : ℕ) → option_and_then key_in (find (λ x. x.feed == feed) (seen_at u n Vehicle)) ≡ first_key rows feed vehicle
   first-key-asked vehicle n h feed =
-      ap (λ x. option_and_then key_in (find (λ y. y.feed == feed) x)) (i.vehicles_under n Vehicle 0)
-      ∙ ap (option_and_then key_in) (sym (find-seen shown (belongs (vehicle_number vehicles) no_number n Vehicle 0) (λ y. y.feed == feed) rows)) ∙ key-shown (find (λ r. belongs (vehicle_number vehicles) no_number n Vehicle 0 r && (r.key.feed == feed)) rows)
+      let p = belongs (vehicle_number vehicles) n Vehicle in
+      ap (λ x. option_and_then key_in (find (λ y. y.feed == feed) x)) (i.vehicles_under n Vehicle)
+      ∙ ap (option_and_then key_in) (sym (find-seen shown p (λ y. y.feed == feed) rows)) ∙ key-shown (find (λ r. p r && (r.key.feed == feed)) rows)
       ∙ ap (option_map (λ r. r.key)) (find-same _ (λ r. is_of Vehicle r && (r.key.feed == feed) && is_id vehicle r.vehicle) (λ r. of-feed (is_number n (number_of vehicles r.vehicle)) (is_of Vehicle r) (r.key.feed == feed)
       ∙ ap (λ x. is_of Vehicle r && (r.key.feed == feed) && x) (number-id vehicles next_vehicle b vehicle n h r.vehicle)) rows)
 

@@ -1,6 +1,6 @@
 -- Rows by number, before and after a row is put in or taken out.
-use Rattle.std.proofs.Common.{◌≡◌, ◌&&◌, ℕ, Bool, true, false, cond, List, [], ◌∷◌, Option, refl, sym, ◌∙◌, ap}
-use Rattle.std.specs.Prelude.{map}
+use Rattle.std.proofs.Common.{◌≡◌, ◌&&◌, ℕ, Bool, true, false, cond, List, [], ◌∷◌, Option, Some, None, refl, sym, ◌∙◌, ap}
+use Rattle.std.specs.Prelude.{map, option_map}
 use Rattle.std.specs.declared.cmp.Ordering.{Ordering}
 use Rattle.std.specs.declared.cmp.Ordering.TheVariants.{Less, Equal, Greater}
 use Rattle.std.specs.Ordering.{nat_cmp, ordering_then, is_eq}
@@ -16,12 +16,16 @@ use Rattle.rule_core.specs.Kinds.{same_kind}
 use Rattle.rule_core.specs.Order.{key_cmp}
 use Rattle.rule_core.specs.Pairs.{PairRow, is_of}
 use Rattle.pairing_rules.specs.declared.entry.Entry.{Entry}
-use Rattle.pairing_rules.specs.Numbers.{is_number}
+use Rattle.pairing_rules.specs.Numbers.{Numbers, is_number, numbered, where_given, where_missing}
 use Rattle.pairing_rules.specs.Rows.{row_cmp, id_cmp}
 use Rattle.pairing_rules.specs.Slots.{Seen, seen_at, seen_cmp, shown}
 use Rattle.pairing_rules.specs.Index.{belongs, AreUnder}
 use Rattle.pairing_rules.proofs.Order.{rows_total, exact_rows, same-kinds, parts}
 use Rattle.pairing_rules.proofs.Lists.{filter-insert, filter-remove, map-insert, map-remove, filter-same}
+
+abbrev unwrap : Option (Option ℕ) → Option ℕ
+unwrap None = None
+unwrap (Some m) = m
 
 absorb : (a b c : Ordering) → ordering_then a (ordering_then (ordering_then a b) c) ≡ ordering_then (ordering_then a b) c
 absorb Less b c = refl
@@ -37,12 +41,12 @@ shown-cmp k r y h g =
     ∙ sym (absorb (nat_cmp r.key.feed y.key.feed) (ordering_then (slice_cmp nat_cmp r.key.id y.key.id) (nat_cmp r.key.occurrence y.key.occurrence)) (ordering_then (id_cmp r.trip y.trip) (id_cmp r.vehicle y.vehicle)))
     ∙ ap (λ o. ordering_then (nat_cmp r.key.feed y.key.feed) (ordering_then o rest)) (sym same)
 
-module _ (first second : PairRow → Option ℕ) (n : ℕ) (k : Kind) (m : ℕ) (r : PairRow) (rows : List PairRow) where
+module _ (number : PairRow → Option ℕ) (n : ℕ) (k : Kind) (r : PairRow) (rows : List PairRow) where
   abbrev here : PairRow → Bool
-  here = belongs first second n k m
+  here = belongs number n k
 
   kind-here : (x : PairRow) → here x ≡ true → same_kind x.kind k ≡ true
-  kind-here x h = (parts (is_number n (first x)) (is_of k x) (is_number m (second x)) h).1
+  kind-here x h = (parts (is_number n (number x)) (is_of k x) h).1
 
   rows-put : IsStrictlySortedBy row_cmp rows → map shown (filter here (insert_key row_cmp rows r)) ≡ cond (here r) (insert_key seen_cmp (map shown (filter here rows)) (shown r)) (map shown (filter here rows))
   rows-put s = ap (map shown) (filter-insert rows_total here r (λ x t. ap here (sym (exact_rows r x t))) rows s) ∙ each (here r) refl
@@ -59,41 +63,51 @@ module _ (first second : PairRow → Option ℕ) (n : ℕ) (k : Kind) (m : ℕ) 
       each false h = refl
 
 -- a row was put in, and rows that were there keep their numbers
-pub under-put : (first second first' second' : PairRow → Option ℕ) (s t : BTreeSet Entry) (rows : List PairRow) (r : PairRow) → IsStrictlySortedBy row_cmp rows
-    → AllByRecursion (λ x. first' x ≡ first x) rows → AllByRecursion (λ x. second' x ≡ second x) rows
-    → ((n : ℕ) (k : Kind) (m : ℕ) → seen_at t n k m ≡ cond (belongs first' second' n k m r) (insert_key seen_cmp (seen_at s n k m) (shown r)) (seen_at s n k m))
-    → AreUnder first second s rows → AreUnder first' second' t (insert_key row_cmp rows r)
-under-put first second first' second' s t rows r o same same' put under = λ n k m.
-    put n k m ∙ ap (λ xs. cond (belongs first' second' n k m r) (insert_key seen_cmp xs (shown r)) xs) (under n k m ∙ ap (map shown) (filter-same (belongs first second n k m) (belongs first' second' n k m) rows (all n k m rows same same')))
-    ∙ sym (rows-put first' second' n k m r rows o)
+pub under-put : (number number' : PairRow → Option ℕ) (s t : BTreeSet Entry) (rows : List PairRow) (r : PairRow) → IsStrictlySortedBy row_cmp rows
+    → AllByRecursion (λ x. number' x ≡ number x) rows
+    → ((n : ℕ) (k : Kind) → seen_at t n k ≡ cond (belongs number' n k r) (insert_key seen_cmp (seen_at s n k) (shown r)) (seen_at s n k))
+    → AreUnder number s rows → AreUnder number' t (insert_key row_cmp rows r)
+under-put number number' s t rows r o same put under = λ n k.
+    put n k ∙ ap (λ xs. cond (belongs number' n k r) (insert_key seen_cmp xs (shown r)) xs) (under n k ∙ ap (map shown) (filter-same (belongs number n k) (belongs number' n k) rows (all n k rows same)))
+    ∙ sym (rows-put number' n k r rows o)
   where
-    all : (n : ℕ) (k : Kind) (m : ℕ) (xs : List PairRow) → AllByRecursion (λ x. first' x ≡ first x) xs → AllByRecursion (λ x. second' x ≡ second x) xs → AllByRecursion (λ x. belongs first second n k m x ≡ belongs first' second' n k m x) xs
-    all n k m [] a b = tt
-    all n k m (x ∷ xs) a b =
-        (ap (λ y. is_number n y && is_of k x && is_number m (second x)) (sym a.0) ∙ ap (λ y. is_number n (first' x) && is_of k x && is_number m y) (sym b.0), all n k m xs a.1 b.1)
+    all : (n : ℕ) (k : Kind) (xs : List PairRow) → AllByRecursion (λ x. number' x ≡ number x) xs → AllByRecursion (λ x. belongs number n k x ≡ belongs number' n k x) xs
+    all n k [] a = tt
+    all n k (x ∷ xs) a = (ap (λ y. is_number n y && is_of k x) (sym a.0), all n k xs a.1)
 
 -- a row was taken out
-pub under-taken : (first second : PairRow → Option ℕ) (s t : BTreeSet Entry) (rows : List PairRow) (r : PairRow)
-    → ((n : ℕ) (k : Kind) (m : ℕ) → seen_at t n k m ≡ cond (belongs first second n k m r) (remove_key (is_at (seen_cmp (shown r))) (seen_at s n k m)) (seen_at s n k m))
-    → AreUnder first second s rows → AreUnder first second t (remove_key (is_at (row_cmp r)) rows)
-under-taken first second s t rows r taken under = λ n k m.
-    taken n k m ∙ ap (λ xs. cond (belongs first second n k m r) (remove_key (is_at (seen_cmp (shown r))) xs) xs) (under n k m) ∙ sym (rows-taken first second n k m r rows)
-
-pub all-same : {A : Type 0} (f : PairRow → A) (xs : List PairRow) → AllByRecursion (λ x. f x ≡ f x) xs
-all-same f [] = tt
-all-same f (x ∷ xs) = (refl, all-same f xs)
+pub under-taken : (number : PairRow → Option ℕ) (s t : BTreeSet Entry) (rows : List PairRow) (r : PairRow)
+    → ((n : ℕ) (k : Kind) → seen_at t n k ≡ cond (belongs number n k r) (remove_key (is_at (seen_cmp (shown r))) (seen_at s n k)) (seen_at s n k))
+    → AreUnder number s rows → AreUnder number t (remove_key (is_at (row_cmp r)) rows)
+under-taken number s t rows r taken under = λ n k.
+    taken n k ∙ ap (λ xs. cond (belongs number n k r) (remove_key (is_at (seen_cmp (shown r))) xs) xs) (under n k) ∙ sym (rows-taken number n k r rows)
 
 -- what was put in or taken out is the row
-pub put-as : (n : ℕ) (k : Kind) (m : ℕ) (x x' y y' : Option ℕ) (h r : PairRow) (old : List Seen) → x ≡ x' → y ≡ y' → h ≡ r
-    → cond (is_number n x && same_kind h.kind k && is_number m y) (insert_key seen_cmp old (shown h)) old ≡ cond (is_number n x' && same_kind r.kind k && is_number m y') (insert_key seen_cmp old (shown r)) old
-put-as n k m x x' y y' h r old e f g =
-    ap (λ z. cond (is_number n z && same_kind h.kind k && is_number m y) (insert_key seen_cmp old (shown h)) old) e
-    ∙ ap (λ z. cond (is_number n x' && same_kind h.kind k && is_number m z) (insert_key seen_cmp old (shown h)) old) f
-    ∙ ap (λ z. cond (is_number n x' && same_kind z.kind k && is_number m y') (insert_key seen_cmp old (shown z)) old) g
+pub put-as : (n : ℕ) (k : Kind) (x x' : Option ℕ) (h r : PairRow) (old : List Seen) → x ≡ x' → h ≡ r
+    → cond (is_number n x && same_kind h.kind k) (insert_key seen_cmp old (shown h)) old ≡ cond (is_number n x' && same_kind r.kind k) (insert_key seen_cmp old (shown r)) old
+put-as n k x x' h r old e g =
+    ap (λ z. cond (is_number n z && same_kind h.kind k) (insert_key seen_cmp old (shown h)) old) e
+    ∙ ap (λ z. cond (is_number n x' && same_kind z.kind k) (insert_key seen_cmp old (shown z)) old) g
 
-pub taken-as : (n : ℕ) (k : Kind) (m : ℕ) (x x' y y' : Option ℕ) (h r : PairRow) (old : List Seen) → x ≡ x' → y ≡ y' → h ≡ r
-    → cond (is_number n x && same_kind h.kind k && is_number m y) (remove_key (is_at (seen_cmp (shown h))) old) old ≡ cond (is_number n x' && same_kind r.kind k && is_number m y') (remove_key (is_at (seen_cmp (shown r))) old) old
-taken-as n k m x x' y y' h r old e f g =
-    ap (λ z. cond (is_number n z && same_kind h.kind k && is_number m y) (remove_key (is_at (seen_cmp (shown h))) old) old) e
-    ∙ ap (λ z. cond (is_number n x' && same_kind h.kind k && is_number m z) (remove_key (is_at (seen_cmp (shown h))) old) old) f
-    ∙ ap (λ z. cond (is_number n x' && same_kind z.kind k && is_number m y') (remove_key (is_at (seen_cmp (shown z))) old) old) g
+pub taken-as : (n : ℕ) (k : Kind) (x x' : Option ℕ) (h r : PairRow) (old : List Seen) → x ≡ x' → h ≡ r
+    → cond (is_number n x && same_kind h.kind k) (remove_key (is_at (seen_cmp (shown h))) old) old ≡ cond (is_number n x' && same_kind r.kind k) (remove_key (is_at (seen_cmp (shown r))) old) old
+taken-as n k x x' h r old e g =
+    ap (λ z. cond (is_number n z && same_kind h.kind k) (remove_key (is_at (seen_cmp (shown h))) old) old) e
+    ∙ ap (λ z. cond (is_number n x' && same_kind z.kind k) (remove_key (is_at (seen_cmp (shown z))) old) old) g
+
+-- what a number beside tells of an id
+pub given-beside : (vehicles : Numbers) (id : Option (List ℕ)) (m n : Option ℕ) → numbered vehicles id ≡ Some m → where_given m n ≡ where_given id n
+given-beside vehicles None m n h = ap (λ x. where_given (unwrap x) n) (sym h)
+given-beside vehicles (Some id) m n h = each (vehicles id) h
+  where
+    each : (o : Option ℕ) → option_map Some o ≡ Some m → where_given m n ≡ n
+    each None h = cc
+    each (Some x) h = ap (λ y. where_given (unwrap y) n) (sym h)
+
+pub missing-beside : (vehicles : Numbers) (id : Option (List ℕ)) (m n : Option ℕ) → numbered vehicles id ≡ Some m → where_missing m n ≡ where_missing id n
+missing-beside vehicles None m n h = ap (λ x. where_missing (unwrap x) n) (sym h)
+missing-beside vehicles (Some id) m n h = each (vehicles id) h
+  where
+    each : (o : Option ℕ) → option_map Some o ≡ Some m → where_missing m n ≡ None
+    each None h = cc
+    each (Some x) h = ap (λ y. where_missing (unwrap y) n) (sym h)

@@ -1,8 +1,9 @@
-pub mod Asked
-pub mod Indexed
 pub mod Lists
-pub mod MapRows
-pub mod SharedKeys
-pub mod Numbering
 pub mod Order
 pub mod Places
+pub mod InOrder
+pub mod Numbering
+pub mod Indexed
+pub mod Seated
+pub mod Asked
+pub mod SharedKeys

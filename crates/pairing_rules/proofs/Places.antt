@@ -18,22 +18,22 @@ use Rattle.pairing_rules.specs.Slots.{Seen, seen, seen_cmp, entry_cmp, at_place,
 use Rattle.pairing_rules.proofs.Order.{entries_total, tied-place, place-cmp, place_cmp, feed_cmp, places_total, feeds_total, place-le, feed-le, place-less, feed-less, place-eq, feed-eq}
 use Rattle.pairing_rules.proofs.Lists.{filter-insert, filter-remove, map-insert, map-remove, find-some, find-none, find-cut, find-same, find-seen, cut}
 
-module _ (n : ℕ) (k : Kind) (m : ℕ) (e : Entry) (keys : List Entry) where
+module _ (n : ℕ) (k : Kind) (e : Entry) (keys : List Entry) where
   abbrev there : List Entry → List Seen
-  there xs = map seen (filter (at_place n k m) xs)
+  there xs = map seen (filter (at_place n k) xs)
 
-  pub place-put : IsStrictlySortedBy entry_cmp keys → there (insert_key entry_cmp keys e) ≡ cond (at_place n k m e) (insert_key seen_cmp (there keys) (seen e)) (there keys)
-  place-put s = ap (map seen) (filter-insert entries_total (at_place n k m) e (λ x t. tied-place e x t n k m) keys s) ∙ each (at_place n k m e) refl
+  pub place-put : IsStrictlySortedBy entry_cmp keys → there (insert_key entry_cmp keys e) ≡ cond (at_place n k e) (insert_key seen_cmp (there keys) (seen e)) (there keys)
+  place-put s = ap (map seen) (filter-insert entries_total (at_place n k) e (λ x t. tied-place e x t n k) keys s) ∙ each (at_place n k e) refl
     where
-      each : (b : Bool) → at_place n k m e ≡ b → map seen (cond b (insert_key entry_cmp (filter (at_place n k m) keys) e) (filter (at_place n k m) keys)) ≡ cond b (insert_key seen_cmp (there keys) (seen e)) (there keys)
-      each true h = map-insert seen (at_place n k m) entry_cmp seen_cmp e (λ x t. place-cmp n k m e x h t) keys
+      each : (b : Bool) → at_place n k e ≡ b → map seen (cond b (insert_key entry_cmp (filter (at_place n k) keys) e) (filter (at_place n k) keys)) ≡ cond b (insert_key seen_cmp (there keys) (seen e)) (there keys)
+      each true h = map-insert seen (at_place n k) entry_cmp seen_cmp e (λ x t. place-cmp n k e x h t) keys
       each false h = refl
 
-  pub place-taken : there (remove_key (is_at (entry_cmp e)) keys) ≡ cond (at_place n k m e) (remove_key (is_at (seen_cmp (seen e))) (there keys)) (there keys)
-  place-taken = ap (map seen) (filter-remove (at_place n k m) (is_at (entry_cmp e)) (at_place n k m e) (λ x t. tied-place e x ((Equal-is (entry_cmp e x)).0 t) n k m) keys) ∙ each (at_place n k m e) refl
+  pub place-taken : there (remove_key (is_at (entry_cmp e)) keys) ≡ cond (at_place n k e) (remove_key (is_at (seen_cmp (seen e))) (there keys)) (there keys)
+  place-taken = ap (map seen) (filter-remove (at_place n k) (is_at (entry_cmp e)) (at_place n k e) (λ x t. tied-place e x ((Equal-is (entry_cmp e x)).0 t) n k) keys) ∙ each (at_place n k e) refl
     where
-      each : (b : Bool) → at_place n k m e ≡ b → map seen (cond b (remove_key (is_at (entry_cmp e)) (filter (at_place n k m) keys)) (filter (at_place n k m) keys)) ≡ cond b (remove_key (is_at (seen_cmp (seen e))) (there keys)) (there keys)
-      each true h = map-remove seen (at_place n k m) (is_at (entry_cmp e)) (is_at (seen_cmp (seen e))) (λ x t. ap is_eq (place-cmp n k m e x h t)) keys
+      each : (b : Bool) → at_place n k e ≡ b → map seen (cond b (remove_key (is_at (entry_cmp e)) (filter (at_place n k) keys)) (filter (at_place n k) keys)) ≡ cond b (remove_key (is_at (seen_cmp (seen e))) (there keys)) (there keys)
+      each true h = map-remove seen (at_place n k) (is_at (entry_cmp e)) (is_at (seen_cmp (seen e))) (λ x t. ap is_eq (place-cmp n k e x h t)) keys
       each false h = refl
 
 pub and-true : (b : Bool) → (b && true) ≡ b
@@ -76,22 +76,22 @@ cut-same p q h None = refl
 cut-same p q h (Some y) = ap (λ b. cond b (Some y) None) (h y)
 
 -- the first at a place
-pub front-place : (n : ℕ) (k : Kind) (m : ℕ) (keys : List Entry) → IsStrictlySortedBy entry_cmp keys
-    → option_map seen (cut (at_place n k m) (find (λ e. is_le (entry_cmp (low n k m 0) e)) keys)) ≡ find (λ _. true) (map seen (filter (at_place n k m) keys))
-front-place n k m keys s =
-    ap (option_map seen) (cut-same (at_place n k m) (λ e. is_eq (place_cmp (low n k m 0) e)) (λ e. sym (place-eq n k m e)) _
-    ∙ front-cut places_total place-less (low n k m 0) (place-le n k m) keys s
-    ∙ find-same (λ e. is_eq (place_cmp (low n k m 0) e)) (λ e. at_place n k m e && true) (λ e. place-eq n k m e ∙ sym (and-true (at_place n k m e))) keys)
-    ∙ find-seen seen (at_place n k m) (λ _. true) keys
+pub front-place : (n : ℕ) (k : Kind) (keys : List Entry) → IsStrictlySortedBy entry_cmp keys
+    → option_map seen (cut (at_place n k) (find (λ e. is_le (entry_cmp (low n k 0) e)) keys)) ≡ find (λ _. true) (map seen (filter (at_place n k) keys))
+front-place n k keys s =
+    ap (option_map seen) (cut-same (at_place n k) (λ e. is_eq (place_cmp (low n k 0) e)) (λ e. sym (place-eq n k e)) _
+    ∙ front-cut places_total place-less (low n k 0) (place-le n k) keys s
+    ∙ find-same (λ e. is_eq (place_cmp (low n k 0) e)) (λ e. at_place n k e && true) (λ e. place-eq n k e ∙ sym (and-true (at_place n k e))) keys)
+    ∙ find-seen seen (at_place n k) (λ _. true) keys
 
 -- and of a feed
-pub front-feed : (n : ℕ) (k : Kind) (m f : ℕ) (keys : List Entry) → IsStrictlySortedBy entry_cmp keys
-    → option_map seen (cut (λ e. at_place n k m e && e.feed == f) (find (λ e. is_le (entry_cmp (low n k m f) e)) keys)) ≡ find (λ s. s.feed == f) (map seen (filter (at_place n k m) keys))
-front-feed n k m f keys s =
-    ap (option_map seen) (cut-same (λ e. at_place n k m e && e.feed == f) (λ e. is_eq (feed_cmp (low n k m f) e)) (λ e. sym (feed-eq n k m f e)) _
-    ∙ front-cut feeds_total feed-less (low n k m f) (feed-le n k m f) keys s
-    ∙ find-same (λ e. is_eq (feed_cmp (low n k m f) e)) (λ e. at_place n k m e && e.feed == f) (feed-eq n k m f) keys)
-    ∙ find-seen seen (at_place n k m) (λ s. s.feed == f) keys
+pub front-feed : (n : ℕ) (k : Kind) (f : ℕ) (keys : List Entry) → IsStrictlySortedBy entry_cmp keys
+    → option_map seen (cut (λ e. at_place n k e && e.feed == f) (find (λ e. is_le (entry_cmp (low n k f) e)) keys)) ≡ find (λ s. s.feed == f) (map seen (filter (at_place n k) keys))
+front-feed n k f keys s =
+    ap (option_map seen) (cut-same (λ e. at_place n k e && e.feed == f) (λ e. is_eq (feed_cmp (low n k f) e)) (λ e. sym (feed-eq n k f e)) _
+    ∙ front-cut feeds_total feed-less (low n k f) (feed-le n k f) keys s
+    ∙ find-same (λ e. is_eq (feed_cmp (low n k f) e)) (λ e. at_place n k e && e.feed == f) (feed-eq n k f) keys)
+    ∙ find-seen seen (at_place n k) (λ s. s.feed == f) keys
 
 pub some-copied : (x : Option (Bor Entry)) → is_some x ≡ is_some (option_copied x)
 some-copied None = refl

@@ -1,5 +1,5 @@
 -- Numbers of ids.
-use Rattle.std.specs.Prelude.{◌≡◌, ◌<◌, ◌==◌, ℕ, Bool, true, false, List, Option, Some, None, option_and_then, is_some}
+use Rattle.std.specs.Prelude.{◌≡◌, ◌<◌, ◌==◌, ℕ, Bool, true, false, List, Option, Some, None, option_and_then, option_map, is_some}
 
 abbrev pub Numbers : Type 0
 Numbers = List ℕ → Option ℕ
@@ -17,10 +17,19 @@ abbrev pub is_named : Numbers → Option (List ℕ) → Bool
 is_named numbers None = true
 is_named numbers (Some id) = is_some (numbers id)
 
--- 0 where a vehicle is given, so that rows that give one come first
-abbrev pub blank : Option (List ℕ) → ℕ
-blank None = 1
-blank (Some vehicle) = 0
+-- the number of an id that may be given, unless it is given and has none
+abbrev pub numbered : Numbers → Option (List ℕ) → Option (Option ℕ)
+numbered numbers None = Some None
+numbered numbers (Some id) = option_map Some (numbers id)
+
+-- a number, where something is given beside it, and where nothing is
+abbrev pub where_given : {A : Type 0} → Option A → Option ℕ → Option ℕ
+where_given None n = None
+where_given (Some x) n = n
+
+abbrev pub where_missing : {A : Type 0} → Option A → Option ℕ → Option ℕ
+where_missing None n = n
+where_missing (Some x) n = None
 
 -- each number is of one text, and below the next one that is given
 pub record AreApart (number : List ℕ → Option ℕ) (next : ℕ) : Type 0 where

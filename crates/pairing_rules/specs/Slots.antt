@@ -8,11 +8,12 @@ use Rattle.std.specs.List.{list_any}
 use Rattle.rule_core.specs.declared.kind.Kind.{Kind}
 use Rattle.rule_core.specs.declared.key.EntityKey.{EntityKey}
 use Rattle.rule_core.specs.declared.kind.Kind.TheVariants as kind
-use Rattle.rule_core.specs.Order.{same_key}
+use Rattle.rule_core.specs.Order.{key_cmp, same_key}
 use Rattle.rule_core.specs.Kinds.{kind_cmp, same_kind}
 use Rattle.rule_core.specs.Pairs.{PairRow}
 use Rattle.pairing_rules.specs.declared.entry.Entry.{Entry}
-use Rattle.pairing_rules.specs.Rows.{held_row, row_cmp}
+use Rattle.pairing_rules.specs.declared.held.Held.{Held}
+use Rattle.pairing_rules.specs.Rows.{held_row, id_cmp, row_cmp}
 
 -- a feed, and a row of it
 pub record Seen : Type 0 where
@@ -20,7 +21,7 @@ pub record Seen : Type 0 where
   pub row : Option PairRow
 
 abbrev pub seen : Entry → Seen
-seen e = record { feed = e.feed; row = option_map (λ h. held_row h.value) e.row }
+seen e = record { feed = e.feed; row = option_map (λ h. held_row e.kind h.value) e.row }
 
 -- of what is seen, the vehicle id and the key
 abbrev pub vehicle_in : Seen → Option (List ℕ)
@@ -36,21 +37,23 @@ seen_cmp a b = ordering_then (nat_cmp a.feed b.feed) (option_cmp row_cmp a.row b
 abbrev pub shown : PairRow → Seen
 shown r = record { feed = r.key.feed; row = Some r }
 
+abbrev pub held_cmp : Held → Held → Ordering
+held_cmp a b = ordering_then (key_cmp a.key b.key) (ordering_then (id_cmp a.trip b.trip) (id_cmp a.vehicle b.vehicle))
+
 -- by place, then feed and row
 abbrev pub entry_cmp : Entry → Entry → Ordering
-entry_cmp a b = ordering_then (nat_cmp a.first b.first) (ordering_then (kind_cmp a.kind b.kind) (ordering_then (nat_cmp a.second b.second)
-    (ordering_then (nat_cmp a.feed b.feed) (option_cmp (λ x y. row_cmp (held_row x.value) (held_row y.value)) a.row b.row))))
+entry_cmp a b = ordering_then (nat_cmp a.number b.number) (ordering_then (kind_cmp a.kind b.kind) (ordering_then (nat_cmp a.feed b.feed) (option_cmp (λ x y. held_cmp x.value y.value) a.row b.row)))
 
-abbrev pub low : ℕ → Kind → ℕ → ℕ → Entry
-low first kind second feed = record { first = first; kind = kind; second = second; feed = feed; row = None }
+abbrev pub low : ℕ → Kind → ℕ → Entry
+low number kind feed = record { number = number; kind = kind; feed = feed; row = None }
 
 -- whether an entry stands at a place
-abbrev pub at_place : ℕ → Kind → ℕ → Entry → Bool
-at_place first kind second e = e.first == first && same_kind e.kind kind && e.second == second
+abbrev pub at_place : ℕ → Kind → Entry → Bool
+at_place number kind e = e.number == number && same_kind e.kind kind
 
 -- what is seen at a place, in order
-abbrev pub seen_at : BTreeSet Entry → ℕ → Kind → ℕ → List Seen
-seen_at entries first kind second = map seen (filter (at_place first kind second) entries.keys)
+abbrev pub seen_at : BTreeSet Entry → ℕ → Kind → List Seen
+seen_at entries number kind = map seen (filter (at_place number kind) entries.keys)
 
 -- ---- the keys of rows
 abbrev pub is_key : EntityKey → Option PairRow → Bool
@@ -61,14 +64,10 @@ is_key key (Some r) = same_key key r.key
 abbrev pub has_key : EntityKey → Seen → Bool
 has_key key s = is_key key s.row
 
-abbrev pub has_key_at : BTreeSet Entry → ℕ → ℕ → EntityKey → Bool
-has_key_at entries first second key = list_any (has_key key) (seen_at entries first kind.TripUpdate second) || list_any (has_key key) (seen_at entries first kind.Vehicle second)
+-- whether a row under a number, of either kind, is of a key
+abbrev pub has_key_at : BTreeSet Entry → ℕ → EntityKey → Bool
+has_key_at entries number key = list_any (has_key key) (seen_at entries number kind.TripUpdate) || list_any (has_key key) (seen_at entries number kind.Vehicle)
 
--- whether a row of a trip that has a number, with a vehicle or with none, is of a key
-abbrev pub has_trip_key : BTreeSet Entry → Option ℕ → EntityKey → Bool
-has_trip_key entries None key = false
-has_trip_key entries (Some trip) key = has_key_at entries trip 0 key || has_key_at entries trip 1 key
-
-abbrev pub has_vehicle_key : BTreeSet Entry → Option ℕ → EntityKey → Bool
-has_vehicle_key entries None key = false
-has_vehicle_key entries (Some vehicle) key = has_key_at entries vehicle 0 key
+abbrev pub has_given_key : BTreeSet Entry → Option ℕ → EntityKey → Bool
+has_given_key entries None key = false
+has_given_key entries (Some number) key = has_key_at entries number key

@@ -1,4 +1,4 @@
-//! Places of rows in an order by numbers.
+//! Places of rows in an order by number.
 ghost use Rattle.std.specs.Prelude.{◌≡◌, ◌==◌, ◌&&◌, ℕ, Some, option_copied};
 ghost use Rattle.rule_core.specs.declared.kind.Kind.{Kind as Of};
 ghost use Rattle.rule_core.specs.Kinds.{same_kind};
@@ -10,49 +10,46 @@ use crate::row::given;
 use rule_core::{EntityKey, Kind};
 use std::rc::Rc;
 
-/// A row at a place, which is two numbers and a kind. Those of one place stand in the order of their rows, after what has none.
+/// A row at a place, which is a number and a kind. Those of one place stand in the order of their rows, after what has none.
 #[derive(PartialEq, Eq, PartialOrd, Ord, Drop)]
 pub(crate) struct Entry {
-    pub first: u32,
+    pub number: u32,
     pub kind: Kind,
-    pub second: u32,
     pub feed: u8,
     pub row: Option<Rc<Held>>,
 }
 
 impl Entry {
-    /// A row under two numbers and its kind.
-    pub fn new(first: u32, second: u32, row: Rc<Held>) -> Entry
-        ensures placed { (n : ℕ) (k : Of) (m : ℕ) → at_place n k m result ≡ (first == n && same_kind row.value.kind k && second == m) }
-        ensures seen { seen result ≡ shown (held_row row.value) }
+    /// A row under a number and its kind.
+    pub fn new(number: u32, kind: Kind, row: Rc<Held>) -> Entry
+        ensures placed { (n : ℕ) (k : Of) → at_place n k result ≡ (number == n && same_kind kind k) }
+        ensures seen { seen result ≡ shown (held_row kind row.value) }
         ensures row { result.row ≡ Some row }
     {
         Entry {
-            first,
-            kind: row.kind,
-            second,
+            number,
+            kind,
             feed: row.key.feed,
             row: Some(row),
         }
     }
 
     /// What stands before the rows of a place and a feed.
-    pub fn low(first: u32, kind: Kind, second: u32, feed: u8) -> Entry
-        ensures { result ≡ low first kind second feed }
+    pub fn low(number: u32, kind: Kind, feed: u8) -> Entry
+        ensures { result ≡ low number kind feed }
     {
         Entry {
-            first,
+            number,
             kind,
-            second,
             feed,
             row: None,
         }
     }
 
-    pub fn is_at(&self, first: u32, kind: Kind, second: u32) -> bool
-        ensures { result ≡ at_place first kind second self.now }
+    pub fn is_at(&self, number: u32, kind: Kind) -> bool
+        ensures { result ≡ at_place number kind self.now }
     {
-        self.first == first && self.kind == kind && self.second == second
+        self.number == number && self.kind == kind
     }
 
     /// The vehicle of the row.

@@ -1,43 +1,31 @@
 //! Rows as they are held.
-ghost use Rattle.std.specs.Prelude.{◌≡◌, IfOk};
+ghost use Rattle.std.specs.Prelude.{◌≡◌};
 ghost use Rattle.pairing_rules.specs.Rows.{pair_row, held_row};
 
 use crate::row::PairRow;
 use feed_values::Text;
-use rule_core::{EntityKey, Kind};
-use std::alloc::{AllocError, Global};
+use rule_core::EntityKey;
 
-/// A row with the key of its entity.
+/// The texts of a row. Its kind stands where it is held.
 #[derive(PartialEq, Eq, PartialOrd, Ord, Drop)]
 pub(crate) struct Held {
-    pub kind: Kind,
     pub key: EntityKey,
     pub trip: Option<Text>,
     pub vehicle: Option<Text>,
 }
 
-fn clone_text(alloc: Global, text: &Option<Text>) -> Result<Option<Text>, AllocError>
-    ensures { IfOk result (λ copy. copy ≡ text.now) }
-{
-    match text {
-        Some(text) => Ok(Some(text.clone(alloc)?)),
-        None => Ok(None),
-    }
-}
-
 impl Held {
-    pub fn new(alloc: Global, row: &PairRow) -> Result<Held, AllocError>
-        ensures { IfOk result (λ held. held_row held ≡ pair_row row.now) }
+    pub fn new(row: PairRow) -> Held
+        ensures { held_row row.kind result ≡ pair_row row }
     {
-        Ok(Held {
-            kind: row.kind,
+        Held {
             key: EntityKey {
                 feed: row.feed,
-                id: row.id.clone(alloc)?,
+                id: row.id,
                 occurrence: row.occurrence,
             },
-            trip: clone_text(alloc, &row.trip)?,
-            vehicle: clone_text(alloc, &row.vehicle)?,
-        })
+            trip: row.trip,
+            vehicle: row.vehicle,
+        }
     }
 }

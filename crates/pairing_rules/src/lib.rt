@@ -12,6 +12,7 @@ mod naming;
 mod pair_index;
 mod row;
 mod rows;
+mod seat;
 mod slots;
 mod taking;
 

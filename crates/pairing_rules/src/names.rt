@@ -1,5 +1,5 @@
 //! Numbers for texts.
-ghost use Rattle.std.specs.Prelude.{◌≡◌, ℕ, List, Some, None, IfOk, option_copied, option_and_then, true};
+ghost use Rattle.std.specs.Prelude.{◌≡◌, ◌+◌, ◌<◌, ◌^◌, ℕ, List, Some, None, IfOk, IfSome, option_copied, option_and_then, true};
 ghost use Rattle.std.specs.HashMap.{get_by_text};
 ghost use Rattle.pairing_rules.specs.Numbers.{AreApart, is_named};
 
@@ -44,8 +44,10 @@ impl Names {
 
     /// The number of a text that may be given.
     pub fn number_given(&self, text: Option<&str>) -> Option<u32>
-        ensures { result ≡ option_and_then (get_by_text self.now.numbers) (option_copied text.entry) }
+        ensures number { result ≡ option_and_then (get_by_text self.now.numbers) (option_copied text.entry) }
+        ensures below { IfSome result (λ n. n + 1 < 2 ^ 32) }
     {
+        let _next = self.next;
         match text {
             Some(text) => self.number(text),
             None => None,

@@ -1,12 +1,10 @@
 //! The keys of rows by number.
-ghost use Rattle.std.specs.Prelude.{◌≡◌, ◌<◌, ◌||◌, OnOk, IfOk};
+ghost use Rattle.std.specs.Prelude.{◌≡◌, ◌<◌, ◌+◌, ◌^◌, ◌||◌, OnOk, IfOk, IfSome};
 ghost use Rattle.std.specs.BTreeSet.{contains};
-ghost use Rattle.std.specs.List.{list_any};
 ghost use Rattle.std.specs.List.Sorted.{IsStrictlySortedBy};
 ghost use Rattle.rule_core.specs.Order.{key_cmp};
 ghost use Rattle.rule_core.specs.declared.key.EntityKey.{EntityKey as Key};
-ghost use Rattle.rule_core.specs.declared.kind.Kind.TheVariants as kind;
-ghost use Rattle.pairing_rules.specs.Slots.{seen, seen_at, has_key, has_trip_key, has_vehicle_key};
+ghost use Rattle.pairing_rules.specs.Slots.{seen, has_key, has_key_at, has_given_key};
 
 use crate::entry::Entry;
 use feed_values::Items;
@@ -27,75 +25,36 @@ fn put_key(alloc: Global, keys: &mut BTreeSet<EntityKey>, entry: &Entry) -> Resu
     }
 }
 
-/// Puts the keys of the rows at a place into a set.
-fn put_place(
+/// Puts the keys of the rows under a number, of both kinds, into a set.
+fn put_number(
     alloc: Global,
     keys: &mut BTreeSet<EntityKey>,
     entries: &BTreeSet<Entry>,
-    first: u32,
-    kind: Kind,
-    second: u32,
+    number: u32,
 ) -> Result<(), AllocError>
-    requires { second < 2 }
-    ensures { OnOk result ((key : Key) → contains key_cmp keys.new key ≡ (contains key_cmp keys.old key || list_any (has_key key) (seen_at entries.now first kind second))) }
+    requires { number + 1 < 2 ^ 32 }
+    ensures { OnOk result ((key : Key) → contains key_cmp keys.new key ≡ (contains key_cmp keys.old key || has_key_at entries.now number key)) }
 {
-    let low = Entry::low(first, kind, second, 0);
-    let high = Entry::low(first, kind, second + 1, 0);
+    let low = Entry::low(number, Kind::TripUpdate, 0);
+    let high = Entry::low(number + 1, Kind::TripUpdate, 0);
     for entry in entries.range(low..high) {
         put_key(alloc, keys, entry)?;
     }
     Ok(())
 }
 
-/// Puts the keys of the rows of both kinds under two numbers into a set.
-fn put_kinds(
+/// The same, under a number that may be given.
+pub(crate) fn put_given_keys(
     alloc: Global,
     keys: &mut BTreeSet<EntityKey>,
     entries: &BTreeSet<Entry>,
-    first: u32,
-    second: u32,
+    number: Option<u32>,
 ) -> Result<(), AllocError>
-    requires { second < 2 }
-    ensures { OnOk result ((key : Key) → contains key_cmp keys.new key ≡ (contains key_cmp keys.old key || (list_any (has_key key) (seen_at entries.now first kind.TripUpdate second) || list_any (has_key key) (seen_at entries.now first kind.Vehicle second)))) }
+    requires { IfSome number (λ n. n + 1 < 2 ^ 32) }
+    ensures { OnOk result ((key : Key) → contains key_cmp keys.new key ≡ (contains key_cmp keys.old key || has_given_key entries.now number key)) }
 {
-    put_place(alloc, keys, entries, first, Kind::TripUpdate, second)?;
-    put_place(alloc, keys, entries, first, Kind::Vehicle, second)?;
-    Ok(())
-}
-
-/// Puts the keys of the rows of a trip into a set, where it has a number.
-pub(crate) fn put_trip(
-    alloc: Global,
-    keys: &mut BTreeSet<EntityKey>,
-    entries: &BTreeSet<Entry>,
-    trip: Option<u32>,
-) -> Result<(), AllocError>
-    ensures { OnOk result ((key : Key) → contains key_cmp keys.new key ≡ (contains key_cmp keys.old key || has_trip_key entries.now trip key)) }
-{
-    match trip {
-        Some(trip) => {
-            put_kinds(alloc, keys, entries, trip, 0)?;
-            put_kinds(alloc, keys, entries, trip, 1)?;
-            Ok(())
-        }
-        None => Ok(()),
-    }
-}
-
-/// Puts the keys of the rows of a vehicle into a set, where it has a number.
-pub(crate) fn put_vehicle(
-    alloc: Global,
-    keys: &mut BTreeSet<EntityKey>,
-    entries: &BTreeSet<Entry>,
-    vehicle: Option<u32>,
-) -> Result<(), AllocError>
-    ensures { OnOk result ((key : Key) → contains key_cmp keys.new key ≡ (contains key_cmp keys.old key || has_vehicle_key entries.now vehicle key)) }
-{
-    match vehicle {
-        Some(vehicle) => {
-            put_kinds(alloc, keys, entries, vehicle, 0)?;
-            Ok(())
-        }
+    match number {
+        Some(number) => put_number(alloc, keys, entries, number),
         None => Ok(()),
     }
 }

@@ -13,9 +13,10 @@ ghost use Rattle.pairing_rules.specs.Rows.{pair_row, row_cmp};
 use crate::entry::Entry;
 use crate::held::Held;
 use crate::names::Names;
-use crate::naming::{in_order, put_trip, put_vehicle};
+use crate::naming::{in_order, put_given_keys};
 use crate::row::{PairRow, given};
-use crate::rows::any_of_kind;
+use crate::rows::{any_of_kind, any_of_pair};
+use crate::seat::Seat;
 use crate::slots::{first_at, first_of_feed, has_at, has_either, put_given};
 use crate::taking::take_entries;
 use feed_values::Items;
@@ -26,32 +27,36 @@ use std::marker::Model;
 use std::rc::Rc;
 
 /// A set of pairing rows, which contracts see as the list of its rows: those of trip updates and then those of vehicle
-/// positions, each by feed, id and occurrence.
+/// positions, each by feed, id and occurrence. Ids keep their numbers when their rows are taken out: memory grows with the ids
+/// that were put in, and the 2^32nd of a sort is answered as want of memory.
 #[derive(Drop)]
 pub struct PairIndex {
     alloc: Global,
-    rows: BTreeMap<PairRow, Rc<Held>>,
+    seats: BTreeMap<Seat, Rc<Held>>,
+    ids: Names,
     trips: Names,
     vehicles: Names,
-    by_trip: BTreeSet<Entry>,
+    /// By trip, those that give a vehicle.
+    paired: BTreeSet<Entry>,
+    /// By trip, those that give none.
+    unpaired: BTreeSet<Entry>,
     by_vehicle: BTreeSet<Entry>,
-    by_both: BTreeSet<Entry>,
 }
 
 impl Model for PairIndex {
     ghost use Rattle.std.specs.Prelude.{List};
     ghost use Rattle.std.specs.HashMap.{get_by_text};
     ghost use Rattle.rule_core.specs.Pairs as pairs;
-    ghost use Rattle.pairing_rules.specs.Rows.{AreKeyed, held_row};
-    ghost use Rattle.pairing_rules.specs.Index.{rows_of, AreIndexed};
+    ghost use Rattle.pairing_rules.specs.Seats.{AreSeated, rows_of};
+    ghost use Rattle.pairing_rules.specs.Index.{AreIndexed};
 
     ghost Value = { List pairs.PairRow };
 
-    ghost view = { λ a. rows_of a.rows.entries };
+    ghost view = { λ a. rows_of a.seats.entries };
 
     ghost invariant = { λ a.
-        AreKeyed (λ h. held_row h.value) a.rows.entries
-        × AreIndexed (rows_of a.rows.entries) (get_by_text a.trips.numbers) (get_by_text a.vehicles.numbers) a.by_trip a.by_vehicle a.by_both };
+        AreSeated (get_by_text a.ids.numbers) (get_by_text a.trips.numbers) (get_by_text a.vehicles.numbers) a.seats.entries
+        × AreIndexed (rows_of a.seats.entries) (get_by_text a.trips.numbers) (get_by_text a.vehicles.numbers) a.paired a.unpaired a.by_vehicle };
 }
 
 impl PairIndex {
@@ -61,12 +66,13 @@ impl PairIndex {
     {
         PairIndex {
             alloc,
-            rows: BTreeMap::new(alloc),
+            seats: BTreeMap::new(alloc),
+            ids: Names::new(alloc),
             trips: Names::new(alloc),
             vehicles: Names::new(alloc),
-            by_trip: BTreeSet::new(alloc),
+            paired: BTreeSet::new(alloc),
+            unpaired: BTreeSet::new(alloc),
             by_vehicle: BTreeSet::new(alloc),
-            by_both: BTreeSet::new(alloc),
         }
     }
 
@@ -77,28 +83,32 @@ impl PairIndex {
     {
         let PairIndex {
             alloc,
-            mut rows,
+            mut seats,
+            ids,
             trips,
             vehicles,
-            mut by_trip,
+            mut paired,
+            mut unpaired,
             mut by_vehicle,
-            mut by_both,
         } = self;
+        let (ids, id) = ids.give(alloc, row.id.as_str())?;
         let (trips, trip) = trips.give_given(alloc, given(&row.trip))?;
         let (vehicles, vehicle) = vehicles.give_given(alloc, given(&row.vehicle))?;
-        let held = Rc::new(alloc, Held::new(alloc, &row)?)?;
-        put_given(&mut by_trip, trip, Some(row.blank()), &held)?;
-        put_given(&mut by_vehicle, vehicle, Some(0), &held)?;
-        put_given(&mut by_both, trip, vehicle, &held)?;
-        rows.insert(row, held)?;
+        let seat = Seat::new(&row, id, trip, vehicle);
+        let held = Rc::new(alloc, Held::new(row))?;
+        put_given(&mut paired, seat.paired(), seat.kind, &held)?;
+        put_given(&mut unpaired, seat.unpaired(), seat.kind, &held)?;
+        put_given(&mut by_vehicle, seat.vehicle, seat.kind, &held)?;
+        seats.insert(seat, held)?;
         Ok(PairIndex {
             alloc,
-            rows,
+            seats,
+            ids,
             trips,
             vehicles,
-            by_trip,
+            paired,
+            unpaired,
             by_vehicle,
-            by_both,
         })
     }
 
@@ -106,19 +116,19 @@ impl PairIndex {
     pub fn take_out(&mut self, row: &PairRow)
         ensures { self.new ≡ remove_key (is_at (row_cmp (pair_row row.now))) self.old }
     {
-        match self.rows.remove(row) {
-            Some(held) => {
-                let trip = self.trips.number_given(given(&row.trip));
-                let vehicle = self.vehicles.number_given(given(&row.vehicle));
-                take_entries(
-                    &mut self.by_trip,
-                    &mut self.by_vehicle,
-                    &mut self.by_both,
-                    trip,
-                    row.blank(),
-                    vehicle,
-                    held,
-                );
+        match Seat::find(&self.ids, &self.trips, &self.vehicles, row) {
+            Some(seat) => {
+                let _count = self.seats.len();
+                match self.seats.remove(&seat) {
+                    Some(held) => take_entries(
+                        &mut self.paired,
+                        &mut self.unpaired,
+                        &mut self.by_vehicle,
+                        &seat,
+                        held,
+                    ),
+                    None => {}
+                }
             }
             None => {}
         }
@@ -132,8 +142,9 @@ impl PairIndex {
         let trip = self.trips.number_given(given(&row.trip));
         let vehicle = self.vehicles.number_given(given(&row.vehicle));
         let mut keys = BTreeSet::new(alloc);
-        put_trip(alloc, &mut keys, &self.by_trip, trip)?;
-        put_vehicle(alloc, &mut keys, &self.by_vehicle, vehicle)?;
+        put_given_keys(alloc, &mut keys, &self.paired, trip)?;
+        put_given_keys(alloc, &mut keys, &self.unpaired, trip)?;
+        put_given_keys(alloc, &mut keys, &self.by_vehicle, vehicle)?;
         let found = in_order(alloc, keys)?;
         Ok(found)
     }
@@ -144,7 +155,7 @@ impl PairView for PairIndex {
 
     fn first_vehicle<'a>(&'a self, kind: Kind, trip: &str) -> Option<&'a str> {
         match self.trips.number(trip) {
-            Some(number) => match first_at(&self.by_trip, number, kind, 0) {
+            Some(number) => match first_at(&self.paired, number, kind) {
                 Some(entry) => entry.vehicle(),
                 None => None,
             },
@@ -155,7 +166,7 @@ impl PairView for PairIndex {
     fn has_pair(&self, kind: Kind, trip: &str, vehicle: &str) -> bool {
         match self.trips.number(trip) {
             Some(first) => match self.vehicles.number(vehicle) {
-                Some(second) => has_at(&self.by_both, first, kind, second),
+                Some(second) => any_of_pair(&self.seats, kind, first, second),
                 None => false,
             },
             None => false,
@@ -163,26 +174,26 @@ impl PairView for PairIndex {
     }
 
     fn any_row(&self, kind: Kind) -> bool {
-        any_of_kind(self.alloc, &self.rows, kind)
+        any_of_kind(&self.seats, kind)
     }
 
     fn has_trip(&self, kind: Kind, trip: &str) -> bool {
         match self.trips.number(trip) {
-            Some(number) => has_either(&self.by_trip, number, kind),
+            Some(number) => has_either(&self.paired, &self.unpaired, number, kind),
             None => false,
         }
     }
 
     fn has_vehicle(&self, kind: Kind, vehicle: &str) -> bool {
         match self.vehicles.number(vehicle) {
-            Some(number) => has_at(&self.by_vehicle, number, kind, 0),
+            Some(number) => has_at(&self.by_vehicle, number, kind),
             None => false,
         }
     }
 
     fn first_key<'a>(&'a self, feed: u8, vehicle: &str) -> Option<&'a EntityKey> {
         match self.vehicles.number(vehicle) {
-            Some(number) => match first_of_feed(&self.by_vehicle, number, Kind::Vehicle, 0, feed) {
+            Some(number) => match first_of_feed(&self.by_vehicle, number, Kind::Vehicle, feed) {
                 Some(entry) => entry.key(),
                 None => None,
             },

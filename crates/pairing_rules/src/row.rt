@@ -1,6 +1,5 @@
 //! Pairing rows.
 ghost use Rattle.std.specs.Prelude.{◌≡◌, option_copied};
-ghost use Rattle.pairing_rules.specs.Numbers.{blank};
 
 use feed_values::Text;
 use rule_core::Kind;
@@ -26,17 +25,5 @@ pub(crate) fn given(text: &Option<Text>) -> Option<&str>
     match text {
         Some(text) => Some(text.as_str()),
         None => None,
-    }
-}
-
-impl PairRow {
-    /// 0 where a vehicle is given, so that such rows come first.
-    pub(crate) fn blank(&self) -> u32
-        ensures { result ≡ blank self.now.vehicle }
-    {
-        match self.vehicle {
-            Some(_) => 0,
-            None => 1,
-        }
     }
 }

@@ -1,60 +1,65 @@
-//! All rows in order.
-ghost use Rattle.std.specs.Prelude.{◌≡◌, [], None, option_copied};
-ghost use Rattle.std.specs.List.{find};
+//! All rows by number.
+ghost use Rattle.std.specs.Prelude.{◌≡◌, ◌&&◌, Some, None, option_copied};
+ghost use Rattle.std.specs.List.{find, list_any};
 ghost use Rattle.std.specs.List.Sorted.{IsStrictlySortedBy};
 ghost use Rattle.std.specs.Ordering.{is_le};
 ghost use Rattle.std.specs.BTreeMap.{keys};
 ghost use Rattle.rule_core.specs.Kinds.{same_kind};
-ghost use Rattle.rule_core.specs.Pairs.{any_row};
-ghost use Rattle.pairing_rules.specs.Index.{rows_of};
-ghost use Rattle.pairing_rules.specs.Rows.{flat_cmp};
+ghost use Rattle.pairing_rules.specs.Numbers.{is_number};
+ghost use Rattle.pairing_rules.specs.Seats.{seat_cmp, is_pair};
 
 use crate::held::Held;
-use crate::row::PairRow;
-use feed_values::Text;
+use crate::seat::Seat;
 use rule_core::Kind;
-use std::alloc::Global;
 use std::collections::BTreeMap;
 use std::rc::Rc;
 
-/// The least row of a kind. It takes no memory.
-fn least(alloc: Global, kind: Kind) -> PairRow
-    ensures { result ≡ record { kind = kind; feed = 0; id = []; occurrence = 0; trip = None; vehicle = None } }
+/// The first seat at or after one.
+fn first_seat_from<'a>(seats: &'a BTreeMap<Seat, Rc<Held>>, low: &Seat) -> Option<&'a Seat>
+    ensures first { option_copied result ≡ find (λ s. is_le (seat_cmp low.now s)) (keys seats.now) }
+    ensures ordered { IsStrictlySortedBy seat_cmp (keys seats.now) }
 {
-    PairRow {
-        kind,
-        feed: 0,
-        id: Text::new(alloc),
-        occurrence: 0,
-        trip: None,
-        vehicle: None,
-    }
-}
-
-/// The first row at or after one.
-fn first_row_from<'a>(rows: &'a BTreeMap<PairRow, Rc<Held>>, low: &PairRow) -> Option<&'a PairRow>
-    ensures first { option_copied result ≡ find (λ r. is_le (flat_cmp low.now r)) (keys rows.now) }
-    ensures ordered { IsStrictlySortedBy flat_cmp (keys rows.now) }
-{
-    match rows.range(low..).next() {
-        Some((row, _)) => Some(row),
+    match seats.range(low..).next() {
+        Some((seat, _)) => Some(seat),
         None => None,
     }
 }
 
-fn is_of_kind(row: &PairRow, kind: Kind) -> bool
-    ensures { result ≡ same_kind row.now.kind kind }
+fn is_of_kind(seat: &Seat, kind: Kind) -> bool
+    ensures { result ≡ same_kind seat.now.kind kind }
 {
-    row.kind == kind
+    seat.kind == kind
+}
+
+fn is_of_pair(seat: &Seat, kind: Kind, trip: u32, vehicle: u32) -> bool
+    ensures { result ≡ is_pair kind trip vehicle seat.now }
+{
+    seat.kind == kind && seat.trip == Some(trip) && seat.vehicle == Some(vehicle)
 }
 
 /// Whether there is a row of a kind.
-pub(crate) fn any_of_kind(alloc: Global, rows: &BTreeMap<PairRow, Rc<Held>>, kind: Kind) -> bool
-    ensures { result ≡ any_row (rows_of rows.now.entries) kind }
+pub(crate) fn any_of_kind(seats: &BTreeMap<Seat, Rc<Held>>, kind: Kind) -> bool
+    ensures { result ≡ list_any (λ s. same_kind s.kind kind) (keys seats.now) }
 {
-    let low = least(alloc, kind);
-    match first_row_from(rows, &low) {
-        Some(row) => is_of_kind(row, kind),
+    let low = Seat::low(kind, None, None);
+    match first_seat_from(seats, &low) {
+        Some(seat) => is_of_kind(seat, kind),
+        None => false,
+    }
+}
+
+/// Whether there is a row of a kind with a trip and a vehicle.
+pub(crate) fn any_of_pair(
+    seats: &BTreeMap<Seat, Rc<Held>>,
+    kind: Kind,
+    trip: u32,
+    vehicle: u32,
+) -> bool
+    ensures { result ≡ list_any (is_pair kind trip vehicle) (keys seats.now) }
+{
+    let low = Seat::low(kind, Some(trip), Some(vehicle));
+    match first_seat_from(seats, &low) {
+        Some(seat) => is_of_pair(seat, kind, trip, vehicle),
         None => false,
     }
 }

@@ -1,8 +1,8 @@
-//! Rows in the order of numbers.
+//! Rows in the order of a number.
 ghost use Rattle.std.specs.Prelude.{◌≡◌, ◌==◌, ◌&&◌, ◌||◌, ℕ, OnOk, Some, cond, option_copied, option_map, true};
 ghost use Rattle.std.specs.List.{find, list_any};
 ghost use Rattle.std.specs.List.Sorted.{IsStrictlySortedBy};
-ghost use Rattle.std.specs.BTreeSet.{insert_key, contains};
+ghost use Rattle.std.specs.BTreeSet.{insert_key};
 ghost use Rattle.std.specs.BTreeMap.{is_at};
 ghost use Rattle.std.specs.Set.{remove_key};
 ghost use Rattle.std.specs.Ordering.{is_le};
@@ -19,50 +19,47 @@ use std::alloc::AllocError;
 use std::collections::BTreeSet;
 use std::rc::Rc;
 
-/// Puts a row in at a place.
+/// Puts a row in under a number.
 pub(crate) fn put_row(
     entries: &mut BTreeSet<Entry>,
-    first: u32,
-    second: u32,
+    number: u32,
+    kind: Kind,
     row: &Rc<Held>,
 ) -> Result<(), AllocError>
-    ensures { OnOk result ((n : ℕ) (k : Of) (m : ℕ) → seen_at entries.new n k m ≡ cond (first == n && same_kind row.now.value.kind k && second == m) (insert_key seen_cmp (seen_at entries.old n k m) (shown (held_row row.now.value))) (seen_at entries.old n k m)) }
+    ensures { OnOk result ((n : ℕ) (k : Of) → seen_at entries.new n k ≡ cond (number == n && same_kind kind k) (insert_key seen_cmp (seen_at entries.old n k) (shown (held_row kind row.now.value))) (seen_at entries.old n k)) }
 {
     let _count = entries.len();
-    let entry = Entry::new(first, second, row.clone()?);
+    let entry = Entry::new(number, kind, row.clone()?);
     entries.insert(entry)?;
     Ok(())
 }
 
-/// Puts a row in at a place, where both of its numbers are given.
+/// Puts a row in under a number that may be given.
 pub(crate) fn put_given(
     entries: &mut BTreeSet<Entry>,
-    first: Option<u32>,
-    second: Option<u32>,
+    number: Option<u32>,
+    kind: Kind,
     row: &Rc<Held>,
 ) -> Result<(), AllocError>
-    ensures { OnOk result ((n : ℕ) (k : Of) (m : ℕ) → seen_at entries.new n k m ≡ cond (is_number n first && same_kind row.now.value.kind k && is_number m second) (insert_key seen_cmp (seen_at entries.old n k m) (shown (held_row row.now.value))) (seen_at entries.old n k m)) }
+    ensures { OnOk result ((n : ℕ) (k : Of) → seen_at entries.new n k ≡ cond (is_number n number && same_kind kind k) (insert_key seen_cmp (seen_at entries.old n k) (shown (held_row kind row.now.value))) (seen_at entries.old n k)) }
 {
-    match first {
-        Some(first) => match second {
-            Some(second) => put_row(entries, first, second, row),
-            None => Ok(()),
-        },
+    match number {
+        Some(number) => put_row(entries, number, kind, row),
         None => Ok(()),
     }
 }
 
-/// Takes a row out at a place, and gives it back.
+/// Takes a row out under a number, and gives it back.
 pub(crate) fn take_row(
     entries: &mut BTreeSet<Entry>,
-    first: u32,
-    second: u32,
+    number: u32,
+    kind: Kind,
     row: Rc<Held>,
 ) -> Rc<Held>
-    ensures taken { (n : ℕ) (k : Of) (m : ℕ) → seen_at entries.new n k m ≡ cond (first == n && same_kind row.value.kind k && second == m) (remove_key (is_at (seen_cmp (shown (held_row row.value)))) (seen_at entries.old n k m)) (seen_at entries.old n k m) }
+    ensures taken { (n : ℕ) (k : Of) → seen_at entries.new n k ≡ cond (number == n && same_kind kind k) (remove_key (is_at (seen_cmp (shown (held_row kind row.value)))) (seen_at entries.old n k)) (seen_at entries.old n k) }
     ensures back { result ≡ row }
 {
-    let entry = Entry::new(first, second, row);
+    let entry = Entry::new(number, kind, row);
     entries.remove(&entry);
     match entry.row {
         Some(row) => row,
@@ -70,21 +67,18 @@ pub(crate) fn take_row(
     }
 }
 
-/// Takes a row out at a place, where both of its numbers are given, and gives it back.
+/// Takes a row out under a number that may be given, and gives it back.
 pub(crate) fn take_given(
     entries: &mut BTreeSet<Entry>,
-    first: Option<u32>,
-    second: Option<u32>,
+    number: Option<u32>,
+    kind: Kind,
     row: Rc<Held>,
 ) -> Rc<Held>
-    ensures taken { (n : ℕ) (k : Of) (m : ℕ) → seen_at entries.new n k m ≡ cond (is_number n first && same_kind row.value.kind k && is_number m second) (remove_key (is_at (seen_cmp (shown (held_row row.value)))) (seen_at entries.old n k m)) (seen_at entries.old n k m) }
+    ensures taken { (n : ℕ) (k : Of) → seen_at entries.new n k ≡ cond (is_number n number && same_kind kind k) (remove_key (is_at (seen_cmp (shown (held_row kind row.value)))) (seen_at entries.old n k)) (seen_at entries.old n k) }
     ensures back { result ≡ row }
 {
-    match first {
-        Some(first) => match second {
-            Some(second) => take_row(entries, first, second, row),
-            None => row,
-        },
+    match number {
+        Some(number) => take_row(entries, number, kind, row),
         None => row,
     }
 }
@@ -98,18 +92,13 @@ fn first_from<'a>(entries: &'a BTreeSet<Entry>, low: &Entry) -> Option<&'a Entry
 }
 
 /// The first row at a place.
-pub(crate) fn first_at<'a>(
-    entries: &'a BTreeSet<Entry>,
-    first: u32,
-    kind: Kind,
-    second: u32,
-) -> Option<&'a Entry>
-    ensures { option_map seen (option_copied result) ≡ find (λ _. true) (seen_at entries.now first kind second) }
+pub(crate) fn first_at(entries: &BTreeSet<Entry>, number: u32, kind: Kind) -> Option<&Entry>
+    ensures { option_map seen (option_copied result) ≡ find (λ _. true) (seen_at entries.now number kind) }
 {
-    let low = Entry::low(first, kind, second, 0);
+    let low = Entry::low(number, kind, 0);
     match first_from(entries, &low) {
         Some(entry) => {
-            if entry.is_at(first, kind, second) {
+            if entry.is_at(number, kind) {
                 Some(entry)
             } else {
                 None
@@ -119,26 +108,25 @@ pub(crate) fn first_at<'a>(
     }
 }
 
-fn is_of_feed(entry: &Entry, first: u32, kind: Kind, second: u32, feed: u8) -> bool
-    ensures { result ≡ (at_place first kind second entry.now && entry.now.feed == feed) }
+fn is_of_feed(entry: &Entry, number: u32, kind: Kind, feed: u8) -> bool
+    ensures { result ≡ (at_place number kind entry.now && entry.now.feed == feed) }
 {
-    entry.is_at(first, kind, second) && entry.feed == feed
+    entry.is_at(number, kind) && entry.feed == feed
 }
 
 /// The first row of a feed at a place.
-pub(crate) fn first_of_feed<'a>(
-    entries: &'a BTreeSet<Entry>,
-    first: u32,
+pub(crate) fn first_of_feed(
+    entries: &BTreeSet<Entry>,
+    number: u32,
     kind: Kind,
-    second: u32,
     feed: u8,
-) -> Option<&'a Entry>
-    ensures { option_map seen (option_copied result) ≡ find (λ s. s.feed == feed) (seen_at entries.now first kind second) }
+) -> Option<&Entry>
+    ensures { option_map seen (option_copied result) ≡ find (λ s. s.feed == feed) (seen_at entries.now number kind) }
 {
-    let low = Entry::low(first, kind, second, feed);
+    let low = Entry::low(number, kind, feed);
     match first_from(entries, &low) {
         Some(entry) => {
-            if is_of_feed(entry, first, kind, second, feed) {
+            if is_of_feed(entry, number, kind, feed) {
                 Some(entry)
             } else {
                 None
@@ -149,19 +137,24 @@ pub(crate) fn first_of_feed<'a>(
 }
 
 /// Whether there is a row at a place.
-pub(crate) fn has_at(entries: &BTreeSet<Entry>, first: u32, kind: Kind, second: u32) -> bool
-    ensures { result ≡ list_any (λ _. true) (seen_at entries.now first kind second) }
+pub(crate) fn has_at(entries: &BTreeSet<Entry>, number: u32, kind: Kind) -> bool
+    ensures { result ≡ list_any (λ _. true) (seen_at entries.now number kind) }
 {
-    first_at(entries, first, kind, second).is_some()
+    first_at(entries, number, kind).is_some()
 }
 
-/// Whether there is a row at one of two places.
-pub(crate) fn has_either(entries: &BTreeSet<Entry>, first: u32, kind: Kind) -> bool
-    ensures { result ≡ (list_any (λ _. true) (seen_at entries.now first kind 0) || list_any (λ _. true) (seen_at entries.now first kind 1)) }
+/// Whether there is a row at a place in one of two sets.
+pub(crate) fn has_either(
+    entries: &BTreeSet<Entry>,
+    others: &BTreeSet<Entry>,
+    number: u32,
+    kind: Kind,
+) -> bool
+    ensures { result ≡ (list_any (λ _. true) (seen_at entries.now number kind) || list_any (λ _. true) (seen_at others.now number kind)) }
 {
-    if has_at(entries, first, kind, 0) {
+    if has_at(entries, number, kind) {
         true
     } else {
-        has_at(entries, first, kind, 1)
+        has_at(others, number, kind)
     }
 }

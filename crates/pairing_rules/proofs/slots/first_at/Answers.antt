@@ -10,16 +10,16 @@ use Rattle.pairing_rules.proofs.slots.first_at.Goals as goal
 pub returns-then-is_at : goal.returns-then-is_at
 returns-then-is_at c =
     let found = sym (c.in-Some.ensures.first ∙ ap (λ one. find (λ e. is_le (entry_cmp one e)) c.args.entries.now.keys) c.low-low.ensures) in
-    ap (option_map seen) (sym (ap (cut (at_place c.args.first c.args.kind c.args.second)) found ∙ ap (λ b. cond b (Some c.in-Some.entry.now) None) (sym c.is_at.ensures ∙ c.if-is_at.true)))
-    ∙ front-place c.args.first c.args.kind c.args.second c.args.entries.now.keys c.in-Some.ensures.ordered
+    ap (option_map seen) (sym (ap (cut (at_place c.args.number c.args.kind)) found ∙ ap (λ b. cond b (Some c.in-Some.entry.now) None) (sym c.is_at.ensures ∙ c.if-is_at.true)))
+    ∙ front-place c.args.number c.args.kind c.args.entries.now.keys c.in-Some.ensures.ordered
 
 pub returns-in-Some : goal.returns-in-Some
 returns-in-Some c =
     let found = sym (c.in-Some.ensures.first ∙ ap (λ one. find (λ e. is_le (entry_cmp one e)) c.args.entries.now.keys) c.low-low.ensures) in
-    ap (option_map seen) (sym (ap (cut (at_place c.args.first c.args.kind c.args.second)) found ∙ ap (λ b. cond b (Some c.in-Some.entry.now) None) (sym c.is_at.ensures ∙ c.if-is_at.false)))
-    ∙ front-place c.args.first c.args.kind c.args.second c.args.entries.now.keys c.in-Some.ensures.ordered
+    ap (option_map seen) (sym (ap (cut (at_place c.args.number c.args.kind)) found ∙ ap (λ b. cond b (Some c.in-Some.entry.now) None) (sym c.is_at.ensures ∙ c.if-is_at.false)))
+    ∙ front-place c.args.number c.args.kind c.args.entries.now.keys c.in-Some.ensures.ordered
 
 pub returns : goal.returns
 returns c =
     let found = sym (c.in-None.ensures.first ∙ ap (λ one. find (λ e. is_le (entry_cmp one e)) c.args.entries.now.keys) c.low-low.ensures) in
-    ap (option_map seen) (sym (ap (cut (at_place c.args.first c.args.kind c.args.second)) found)) ∙ front-place c.args.first c.args.kind c.args.second c.args.entries.now.keys c.in-None.ensures.ordered
+    ap (option_map seen) (sym (ap (cut (at_place c.args.number c.args.kind)) found)) ∙ front-place c.args.number c.args.kind c.args.entries.now.keys c.in-None.ensures.ordered

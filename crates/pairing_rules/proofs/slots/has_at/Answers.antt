@@ -6,4 +6,4 @@ use Rattle.pairing_rules.proofs.Places.{some-copied}
 use Rattle.pairing_rules.proofs.slots.has_at.Goals as goal
 
 pub returns : goal.returns
-returns c = c.is_some.ensures ∙ some-copied c.first_at.result ∙ some-mapped seen (option_copied c.first_at.result) ∙ ap is_some c.first_at.ensures ∙ sym (any-find (λ _. true) (seen_at c.args.entries.now c.args.first c.args.kind c.args.second))
+returns c = c.is_some.ensures ∙ some-copied c.first_at.result ∙ some-mapped seen (option_copied c.first_at.result) ∙ ap is_some c.first_at.ensures ∙ sym (any-find (λ _. true) (seen_at c.args.entries.now c.args.number c.args.kind))

@@ -9,10 +9,10 @@ use Rattle.pairing_rules.proofs.Places.{place-put}
 use Rattle.pairing_rules.proofs.slots.put_row.Goals as goal
 
 pub returns : goal.returns
-returns c = λ n k m.
-    let old = seen_at c.args.entries.now n k m in
+returns c = λ n k.
+    let old = seen_at c.args.entries.now n k in
     let copy : c.in_ok-clone.field-0.value ≡ c.args.row.now.value = search rules in
-    ap (λ xs. map seen (filter (at_place n k m) xs)) c.in_ok-insert.ensures.keys ∙ place-put n k m c.new-entry.result c.args.entries.now.keys c.len-count.ensures.ordered
-    ∙ ap (λ b. cond b (insert_key seen_cmp old (seen c.new-entry.result)) old) (c.new-entry.ensures.placed n k m)
-    ∙ ap (λ s. cond (c.args.first == n && same_kind c.in_ok-clone.field-0.value.kind k && c.args.second == m) (insert_key seen_cmp old s) old) c.new-entry.ensures.seen
-    ∙ ap (λ h. cond (c.args.first == n && same_kind h.kind k && c.args.second == m) (insert_key seen_cmp old (shown (held_row h))) old) copy
+    ap (λ xs. map seen (filter (at_place n k) xs)) c.in_ok-insert.ensures.keys ∙ place-put n k c.new-entry.result c.args.entries.now.keys c.len-count.ensures.ordered
+    ∙ ap (λ b. cond b (insert_key seen_cmp old (seen c.new-entry.result)) old) (c.new-entry.ensures.placed n k)
+    ∙ ap (λ s. cond (c.args.number == n && same_kind c.args.kind k) (insert_key seen_cmp old s) old) c.new-entry.ensures.seen
+    ∙ ap (λ h. cond (c.args.number == n && same_kind c.args.kind k) (insert_key seen_cmp old (shown (held_row c.args.kind h))) old) copy
