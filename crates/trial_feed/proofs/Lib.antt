@@ -1,0 +1,10 @@
+pub mod Wrapped
+pub mod Lists
+pub mod Rows
+pub mod Starts
+pub mod Keeping
+pub mod Changing
+pub mod Held
+pub mod Formed
+pub mod Shortness
+pub mod Taken

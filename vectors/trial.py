@@ -1,0 +1,104 @@
+#!/usr/bin/env python3
+"""Makes the snapshots and the timetable of `trial N` on its own, with Debian's protobuf-compiler.
+
+    apt-get install protobuf-compiler; python3 vectors/trial.py [N]
+
+Each snapshot is written as text and encoded by `protoc --encode`, fields in the order of their numbers. Printed are, for
+the five files and then the 40 snapshots, how many bytes they have and their Adler-32; the rows for N = 7 stand in
+crates/trial_feed/src/tests.rt. With --write FOLDER the files and the snapshots are written too, with a list for
+`rt_command follow --timetable trial --list list.txt`, to be run in that folder.
+"""
+import argparse, pathlib, subprocess, zlib
+
+here = pathlib.Path(__file__).parent
+ENTITIES = 2000
+TRIPS = ENTITIES - 1
+START = 1_700_000_000
+
+
+class Draws:
+    def __init__(self, seed):
+        self.state = seed
+
+    def below(self, limit):
+        self.state = (self.state * 6364136223846793005 + 1442695040888963407) % 2**64
+        return self.state // 2**33 % limit
+
+
+def files():
+    trips = "".join("R1,WK,T%d\n" % k for k in range(TRIPS))
+    times = "".join("T%d,08:00:00,08:00:00,S1,1\n" % k for k in range(TRIPS))
+    return {
+        "agency.txt": "agency_id\nA1\n",
+        "stops.txt": "stop_id\nS1\n",
+        "routes.txt": "route_id\nR1\n",
+        "trips.txt": "route_id,service_id,trip_id\n" + trips,
+        "stop_times.txt": "trip_id,arrival_time,departure_time,stop_id,stop_sequence\n" + times,
+    }
+
+
+def trip(k):
+    return 'trip { trip_id: "T%d" schedule_relationship: SCHEDULED }' % k
+
+
+def update(k, letter, delay):
+    return ('entity { id: "u%d" trip_update { %s stop_time_update { stop_sequence: 1 arrival { delay: %d } '
+            'schedule_relationship: SCHEDULED } vehicle { id: "%s%d" } timestamp: %d } }'
+            % (k, trip(k), delay, letter, k, START))
+
+
+def position(k, letter, sequence):
+    return ('entity { id: "p%d" vehicle { %s current_stop_sequence: %d timestamp: %d vehicle { id: "%s%d" } } }'
+            % (k, trip(k), sequence, START, letter, k))
+
+
+def encode(text):
+    run = subprocess.run(
+        ["protoc", "--encode=realtime.FeedMessage", "-I", str(here), "gtfs-realtime.proto"],
+        input=text.encode(), stdout=subprocess.PIPE, check=True)
+    return run.stdout
+
+
+def snapshots(seed):
+    draws = Draws(seed)
+    numbers = [[k % 600 for k in range(ENTITIES)], [1] * ENTITIES]
+    letters = [["v"] * ENTITIES, ["v"] * ENTITIES]
+    for s in range(40):
+        feed = s % 2
+        if s >= 2:
+            first = draws.below(ENTITIES)
+            for j in range(20):
+                k = (first + j) % ENTITIES
+                if draws.below(4) == 0:
+                    letters[feed][k] = "w" if letters[feed][k] == "v" else "v"
+                else:
+                    numbers[feed][k] += 1
+        entity = (update, position)[feed]
+        header = 'header { gtfs_realtime_version: "2.0" incrementality: FULL_DATASET timestamp: %d }' % (START + 15 * s)
+        yield feed, START + 15 * s, encode("\n".join(
+            [header] + [entity(k, letters[feed][k], numbers[feed][k]) for k in range(ENTITIES)]))
+
+
+def row(name, data):
+    return "(%s, %d, 0x%08X)," % (name, len(data), zlib.adler32(data))
+
+
+parser = argparse.ArgumentParser(description=__doc__.splitlines()[0])
+parser.add_argument("seed", nargs="?", type=int, default=7)
+parser.add_argument("--write", type=pathlib.Path)
+asked = parser.parse_args()
+
+if asked.write:
+    (asked.write / "trial").mkdir(parents=True, exist_ok=True)
+for name, text in files().items():
+    print(row('"trial/%s"' % name, text.encode()))
+    if asked.write:
+        (asked.write / "trial" / name).write_text(text)
+listed = []
+for number, (feed, moment, data) in enumerate(snapshots(asked.seed)):
+    print(row(number, data))
+    listed.append("%d,%d,%d.pb\n" % (feed, moment, number))
+    if asked.write:
+        (asked.write / ("%d.pb" % number)).write_bytes(data)
+if asked.write:
+    (asked.write / "list.txt").write_text("".join(listed))
