@@ -76,6 +76,20 @@ refused row refusal = object
     (member (codes "reason") (string (reason_name refusal.reason))
     (member (codes "row") (count row) no_members))))
 
+-- ---- the trial
+-- its snapshots, the findings that stand after them, and of all snapshots together: what they opened and closed, and how many
+-- entities were judged anew
+abbrev pub trial : (snapshots findings opened closed tested paired bounded : ℕ) → Data
+trial snapshots findings opened closed tested paired bounded = object
+    (member (codes "bounded") (count bounded)
+    (member (codes "closed") (count closed)
+    (member (codes "findings") (count findings)
+    (member (codes "line") (string (codes "trial"))
+    (member (codes "opened") (count opened)
+    (member (codes "paired") (count paired)
+    (member (codes "snapshots") (count snapshots)
+    (member (codes "tested") (count tested) no_members))))))))
+
 -- ---- a finding
 abbrev pub kind_name : Kind → List ℕ
 kind_name kind.TripUpdate = codes "trip_update"

@@ -1,13 +1,14 @@
 //! Asks as JSON: their names, and their keys as texts.
-ghost use Rattle.std.specs.Prelude.{◌≡◌, [], ◌∷◌, ◌++◌, IfOk, OnOk, map, decimal, string_bytes};
-ghost use Rattle.serde_json.specs.Data.{string};
-ghost use Rattle.serde_json.specs.View.{view};
+ghost use Rattle.std.specs.Prelude.{◌≡◌, [], ◌∷◌, OnOk, map, decimal};
+ghost use Rattle.json.specs.Token as token;
 ghost use Rattle.feed_values.specs.Cells.{path_text};
-ghost use Rattle.rt_report.specs.Lines.{kind_name, ask_name, ask_keys, texts_data};
+ghost use Rattle.rt_report.specs.Lines.{kind_name, ask_name, ask_keys};
+ghost use Rattle.rt_report.specs.Tokens.{Adds};
 
-use feed_values::{Path, Slot, Text};
+use crate::tokens::push_item;
+use feed_values::{Path, Slot};
+use json::Writer;
 use rule_core::{Ask, Kind};
-use serde_json::Value;
 use std::alloc::{AllocError, Global};
 
 fn kind_name(kind: Kind) -> &'static str
@@ -53,73 +54,57 @@ pub(crate) fn ask_name(ask: &Ask) -> &'static str
     }
 }
 
-fn path_value(alloc: Global, path: Path) -> Result<Value, AllocError>
-    ensures { IfOk result (λ value. view value ≡ string (path_text path.slot path.index)) }
+fn push_path(alloc: Global, out: &mut Writer, path: Path) -> Result<(), AllocError>
+    ensures { OnOk result (Adds out.old out.new (token.string (path_text path.slot path.index) ∷ [])) }
 {
     let text = path.text(alloc)?;
-    Ok(Value::String(text))
+    push_item(out, text.as_str())
 }
 
-fn head_value(alloc: Global, slot: Slot) -> Result<Value, AllocError>
-    ensures { IfOk result (λ value. view value ≡ string (path_text slot 0)) }
+fn push_head(alloc: Global, out: &mut Writer, slot: Slot) -> Result<(), AllocError>
+    ensures { OnOk result (Adds out.old out.new (token.string (path_text slot 0) ∷ [])) }
 {
-    path_value(alloc, Path { slot, index: 0 })
+    push_path(alloc, out, Path { slot, index: 0 })
 }
 
-fn text_value(alloc: Global, text: &Text) -> Result<Value, AllocError>
-    ensures { IfOk result (λ value. view value ≡ string text.now) }
+fn push_two(out: &mut Writer, first: &str, second: &str) -> Result<(), AllocError>
+    ensures { OnOk result (Adds out.old out.new (token.string first.now ∷ token.string second.now ∷ [])) }
 {
-    Value::try_from_str(alloc, text.as_str())
+    push_item(out, first)?;
+    push_item(out, second)
 }
 
-fn kind_value(alloc: Global, kind: Kind) -> Result<Value, AllocError>
-    ensures { IfOk result (λ value. view value ≡ string (kind_name kind)) }
+fn push_three(out: &mut Writer, first: &str, second: &str, third: &str) -> Result<(), AllocError>
+    ensures { OnOk result (Adds out.old out.new (token.string first.now ∷ token.string second.now ∷ token.string third.now ∷ [])) }
 {
-    Value::try_from_str(alloc, kind_name(kind))
+    push_item(out, first)?;
+    push_two(out, second, third)
 }
 
-fn number_value(alloc: Global, number: u32) -> Result<Value, AllocError>
-    ensures { IfOk result (λ value. view value ≡ string (decimal number)) }
+/// A text, and behind it a number in decimal.
+fn push_numbered(out: &mut Writer, text: &str, number: u32) -> Result<(), AllocError>
+    ensures { OnOk result (Adds out.old out.new (token.string text.now ∷ token.string (decimal number) ∷ [])) }
 {
-    let text = format!(in alloc; "{number}")?;
-    Ok(Value::String(text))
+    push_item(out, text)?;
+    out.quoted_u64(number as u64)
 }
 
-fn one(alloc: Global, first: Value) -> Result<Vec<Value>, AllocError>
-    ensures { IfOk result (λ list. map view list.items ≡ view first ∷ []) }
+/// A number in decimal, and behind it a text.
+fn push_behind_number(out: &mut Writer, number: u8, text: &str) -> Result<(), AllocError>
+    ensures { OnOk result (Adds out.old out.new (token.string (decimal number) ∷ token.string text.now ∷ [])) }
 {
-    let mut list = Vec::new(alloc);
-    list.push(first)?;
-    Ok(list)
+    out.quoted_u64(number as u64)?;
+    push_item(out, text)
 }
 
-fn two(alloc: Global, first: Value, second: Value) -> Result<Vec<Value>, AllocError>
-    ensures { IfOk result (λ list. map view list.items ≡ view first ∷ view second ∷ []) }
-{
-    let mut list = Vec::new(alloc);
-    list.push(first)?;
-    list.push(second)?;
-    Ok(list)
-}
-
-fn three(alloc: Global, first: Value, second: Value, third: Value) -> Result<Vec<Value>, AllocError>
-    ensures { IfOk result (λ list. map view list.items ≡ view first ∷ view second ∷ view third ∷ []) }
-{
-    let mut list = Vec::new(alloc);
-    list.push(first)?;
-    list.push(second)?;
-    list.push(third)?;
-    Ok(list)
-}
-
-/// The keys of an ask.
-pub(crate) fn key_values(alloc: Global, ask: &Ask) -> Result<Vec<Value>, AllocError>
-    ensures { IfOk result (λ list. map view list.items ≡ map string (ask_keys ask.now)) }
+/// Appends the keys of an ask, as items.
+pub(crate) fn push_keys(alloc: Global, out: &mut Writer, ask: &Ask) -> Result<(), AllocError>
+    ensures { OnOk result (Adds out.old out.new (map token.string (ask_keys ask.now))) }
 {
     match ask {
-        Ask::Cell(path) => one(alloc, path_value(alloc, *path)?),
-        Ask::HeadNow(slot) | Ask::HeadBefore(slot) => one(alloc, head_value(alloc, *slot)?),
-        Ask::Moment | Ask::Occurrence | Ask::EntitiesChanged => Ok(Vec::new(alloc)),
+        Ask::Cell(path) => push_path(alloc, out, *path),
+        Ask::HeadNow(slot) | Ask::HeadBefore(slot) => push_head(alloc, out, *slot),
+        Ask::Moment | Ask::Occurrence | Ask::EntitiesChanged => Ok(()),
         Ask::TripKnown(id)
         | Ask::RouteKnown(id)
         | Ask::AgencyKnown(id)
@@ -128,27 +113,20 @@ pub(crate) fn key_values(alloc: Global, ask: &Ask) -> Result<Vec<Value>, AllocEr
         | Ask::TripDirection(id)
         | Ask::TripExact(id)
         | Ask::VisitsTwice(id)
-        | Ask::FirstArrival(id) => one(alloc, text_value(alloc, id)?),
-        Ask::OnGrid(trip, time) => two(alloc, text_value(alloc, trip)?, text_value(alloc, time)?),
+        | Ask::FirstArrival(id) => push_item(out, id.as_str()),
+        Ask::OnGrid(trip, time) => push_two(out, trip.as_str(), time.as_str()),
         Ask::StopAt(trip, n) | Ask::ArrivalAt(trip, n) | Ask::DepartureAt(trip, n) => {
-            two(alloc, text_value(alloc, trip)?, number_value(alloc, *n)?)
+            push_numbered(out, trip.as_str(), *n)
         }
-        Ask::AnyRow(kind) => one(alloc, kind_value(alloc, *kind)?),
+        Ask::AnyRow(kind) => push_item(out, kind_name(*kind)),
         Ask::FirstVehicle(kind, id) | Ask::HasTrip(kind, id) | Ask::HasVehicle(kind, id) => {
-            two(alloc, kind_value(alloc, *kind)?, text_value(alloc, id)?)
+            push_two(out, kind_name(*kind), id.as_str())
         }
-        Ask::HasPair(kind, trip, vehicle) => three(
-            alloc,
-            kind_value(alloc, *kind)?,
-            text_value(alloc, trip)?,
-            text_value(alloc, vehicle)?,
-        ),
+        Ask::HasPair(kind, trip, vehicle) => {
+            push_three(out, kind_name(*kind), trip.as_str(), vehicle.as_str())
+        }
         Ask::FirstId(feed, id) | Ask::FirstOccurrence(feed, id) => {
-            two(
-                alloc,
-                number_value(alloc, *feed as u32)?,
-                text_value(alloc, id)?,
-            )
+            push_behind_number(out, *feed, id.as_str())
         }
     }
 }

@@ -1,18 +1,23 @@
 //! The line of a finding.
-ghost use Rattle.std.specs.Prelude.{◌≡◌, IfOk, map, true, take};
+ghost use Rattle.std.specs.Prelude.{◌≡◌, [], ◌∷◌, ◌++◌, IfOk, OnOk, codes, true};
 ghost use Rattle.std.specs.List.{list_all};
-ghost use Rattle.serde_json.specs.View.{view};
+ghost use Rattle.json.specs.Token as token;
+ghost use Rattle.serde_json.specs.Data.{number};
+ghost use Rattle.serde_json.specs.Find.{of_integer};
 ghost use Rattle.rule_core.specs.Asked.{in_range};
-ghost use Rattle.rule_core.specs.Rules.{level};
-ghost use Rattle.rt_report.specs.Lines.{line_of, line_name, cell_data, texts_data, ask_keys, fact_data, facts_data, entity_finding, finding_data, finding_at};
+ghost use Rattle.rt_report.specs.Lines.{line_of, line_name, cell_data, fact_data, facts_data, entity_finding, finding_data, finding_at};
 ghost use Rattle.rule_core.specs.declared.place.Place.TheVariants as place;
+ghost use Rattle.rt_report.specs.Tokens.{Adds, tokens_of, fact_tokens, head_finding};
 
-use crate::asked::{ask_name, key_values};
-use crate::line::line_of;
+use crate::asked::{ask_name, push_keys};
+use crate::tokens::{push_count, push_text};
 use feed_values::{CellValue, Path, Slot};
-use rule_core::{EntityKey, Fact, Finding, Place, RuleId};
-use serde_json::{Value, json};
+use json::Writer;
+use rule_core::{EntityKey, Fact, Finding, Place};
 use std::alloc::{AllocError, Global};
+
+// How many bytes a line is given at first: what most lines need.
+const ROOM: usize = 384;
 
 /// Which line a finding is: one of all findings, or of those that a snapshot opened.
 #[derive(Clone, Copy, Debug)]
@@ -30,86 +35,95 @@ fn line_name(kind: LineKind) -> &'static str
     }
 }
 
-fn cell_value(alloc: Global, cell: &CellValue) -> Result<Value, AllocError>
+/// A number that may be below 0.
+fn push_integer(out: &mut Writer, integer: i64) -> Result<(), AllocError>
+    ensures { OnOk result (Adds out.old out.new (tokens_of (number (of_integer integer)))) }
+{
+    out.i64(integer)
+}
+
+fn push_cell(out: &mut Writer, cell: &CellValue) -> Result<(), AllocError>
     requires { in_range cell.now ≡ true }
-    ensures { IfOk result (λ value. view value ≡ cell_data cell.now) }
+    ensures { OnOk result (Adds out.old out.new (tokens_of (cell_data cell.now))) }
 {
     match cell {
-        CellValue::Missing => Ok(Value::Null),
+        CellValue::Missing => out.null(),
         CellValue::Number(number) => {
             if *number < 0 {
-                Ok(Value::from(*number as i64))
+                push_integer(out, *number as i64)
             } else {
-                Ok(Value::from(*number as u64))
+                out.u64(*number as u64)
             }
         }
-        CellValue::Text(text) => Value::try_from_str(alloc, text.as_str()),
+        CellValue::Text(text) => out.string(text.as_str()),
     }
 }
 
-fn fact_value(alloc: Global, fact: &Fact) -> Result<Value, AllocError>
+fn push_fact(alloc: Global, out: &mut Writer, fact: &Fact) -> Result<(), AllocError>
     requires { in_range fact.now.value ≡ true }
-    ensures { IfOk result (λ value. view value ≡ fact_data fact.now) }
+    ensures { OnOk result (Adds out.old out.new (tokens_of (fact_data fact.now))) }
 {
-    let keys = Value::Array(key_values(alloc, &fact.ask)?);
-    let value = cell_value(alloc, &fact.value)?;
-    json!(in alloc; {"ask": ask_name(&fact.ask), "keys": (keys), "value": (value)})
+    out.begin_object()?;
+    push_text(out, "ask", ask_name(&fact.ask))?;
+    out.key("keys")?;
+    out.begin_array()?;
+    push_keys(alloc, out, &fact.ask)?;
+    out.end_array()?;
+    out.key("value")?;
+    push_cell(out, &fact.value)?;
+    out.end_object()
 }
 
-fn fact_values(alloc: Global, facts: &[Fact]) -> Result<Vec<Value>, AllocError>
+fn push_facts(alloc: Global, out: &mut Writer, facts: &[Fact]) -> Result<(), AllocError>
     requires { list_all (λ f. in_range f.value) facts.now ≡ true }
-    ensures { IfOk result (λ list. map view list.items ≡ map fact_data facts.now) }
+    ensures { OnOk result (Adds out.old out.new (fact_tokens facts.now)) }
 {
-    let mut list = Vec::new(alloc);
     for fact in facts {
-        list.push(fact_value(alloc, fact)?)?;
+        push_fact(alloc, out, fact)?;
     }
-    Ok(list)
+    Ok(())
 }
 
-fn facts_value(alloc: Global, facts: &[Fact]) -> Result<Value, AllocError>
+/// Begins a finding's object by its facts.
+fn push_front(alloc: Global, out: &mut Writer, facts: &[Fact]) -> Result<(), AllocError>
     requires { list_all (λ f. in_range f.value) facts.now ≡ true }
-    ensures { IfOk result (λ value. view value ≡ facts_data facts.now) }
+    ensures { OnOk result (Adds out.old out.new (token.begin_object ∷ token.key (codes "facts") ∷ tokens_of (facts_data facts.now))) }
 {
-    let list = fact_values(alloc, facts)?;
-    Ok(Value::Array(list))
+    out.begin_object()?;
+    out.key("facts")?;
+    out.begin_array()?;
+    push_facts(alloc, out, facts)?;
+    out.end_array()
 }
 
-/// The facts of a finding. Their numbers are within the bounds of all answers, since they break its rule.
-fn facts_of(alloc: Global, finding: &Finding) -> Result<Value, AllocError>
-    ensures { IfOk result (λ value. view value ≡ facts_data finding.now.facts) }
-{
-    let facts = finding.facts();
-    facts_value(alloc, facts.as_slice())
-}
-
-fn head_value(
+fn push_head(
     alloc: Global,
-    kind: LineKind,
-    finding: &Finding,
+    out: &mut Writer,
+    facts: &[Fact],
     feed: u8,
-    slot: Slot,
+    level: &str,
+    line: &str,
+    path: &str,
+    rule: &str,
     since: u64,
-) -> Result<Value, AllocError>
-    ensures { IfOk result (λ value. view value ≡ finding_at kind finding.now since (place.Head feed slot)) }
+) -> Result<(), AllocError>
+    requires { list_all (λ f. in_range f.value) facts.now ≡ true }
+    ensures { OnOk result (Adds out.old out.new (tokens_of (head_finding (facts_data facts.now) feed level.now line.now path.now rule.now since))) }
 {
-    let facts = facts_of(alloc, finding)?;
-    let path = Path { slot, index: 0 };
-    let path = path.text(alloc)?;
-    json!(in alloc; {
-        "facts": (facts),
-        "feed": feed,
-        "level": finding.rule().level(),
-        "line": line_name(kind),
-        "path": path.as_str(),
-        "rule": finding.rule().name(),
-        "since": since,
-    })
+    push_front(alloc, out, facts)?;
+    push_count(out, "feed", feed as u64)?;
+    push_text(out, "level", level)?;
+    push_text(out, "line", line)?;
+    push_text(out, "path", path)?;
+    push_text(out, "rule", rule)?;
+    push_count(out, "since", since)?;
+    out.end_object()
 }
 
-fn entity_json(
+fn push_entity(
     alloc: Global,
-    facts: Value,
+    out: &mut Writer,
+    facts: &[Fact],
     feed: u8,
     id: &str,
     level: &str,
@@ -118,40 +132,75 @@ fn entity_json(
     path: &str,
     rule: &str,
     since: u64,
-) -> Result<Value, AllocError>
-    ensures { IfOk result (λ value. view value ≡ entity_finding (view facts) feed id.now level.now line.now occurrence path.now rule.now since) }
+) -> Result<(), AllocError>
+    requires { list_all (λ f. in_range f.value) facts.now ≡ true }
+    ensures { OnOk result (Adds out.old out.new (tokens_of (entity_finding (facts_data facts.now) feed id.now level.now line.now occurrence path.now rule.now since))) }
 {
-    json!(in alloc; {
-        "facts": (facts),
-        "feed": feed,
-        "id": id,
-        "level": level,
-        "line": line,
-        "occurrence": occurrence,
-        "path": path,
-        "rule": rule,
-        "since": since,
-    })
+    push_front(alloc, out, facts)?;
+    push_count(out, "feed", feed as u64)?;
+    push_text(out, "id", id)?;
+    push_text(out, "level", level)?;
+    push_text(out, "line", line)?;
+    push_count(out, "occurrence", occurrence as u64)?;
+    push_text(out, "path", path)?;
+    push_text(out, "rule", rule)?;
+    push_count(out, "since", since)?;
+    out.end_object()
 }
 
-fn entity_value(
+/// Appends a finding at a place on a header. The numbers of its facts are within the bounds of all answers, since they break its
+/// rule.
+fn push_on_header(
     alloc: Global,
+    out: &mut Writer,
+    kind: LineKind,
+    finding: &Finding,
+    feed: u8,
+    slot: Slot,
+    since: u64,
+) -> Result<(), AllocError>
+    ensures { OnOk result (Adds out.old out.new (tokens_of (finding_at kind finding.now since (place.Head feed slot)))) }
+{
+    let facts = finding.facts().as_slice();
+    let path = Path { slot, index: 0 };
+    let path = path.text(alloc)?;
+    let level = finding.rule().level();
+    let line = line_name(kind);
+    let rule = finding.rule().name();
+    push_head(
+        alloc,
+        out,
+        facts,
+        feed,
+        level,
+        line,
+        path.as_str(),
+        rule,
+        since,
+    )
+}
+
+/// The same at a place of an entity.
+fn push_at_entity(
+    alloc: Global,
+    out: &mut Writer,
     kind: LineKind,
     finding: &Finding,
     key: &EntityKey,
     path: Path,
     since: u64,
-) -> Result<Value, AllocError>
-    ensures { IfOk result (λ value. view value ≡ finding_at kind finding.now since (place.Entity key.now path)) }
+) -> Result<(), AllocError>
+    ensures { OnOk result (Adds out.old out.new (tokens_of (finding_at kind finding.now since (place.Entity key.now path)))) }
 {
-    let facts = facts_of(alloc, finding)?;
+    let facts = finding.facts().as_slice();
     let path = path.text(alloc)?;
     let id = key.id.as_str();
     let level = finding.rule().level();
     let line = line_name(kind);
     let rule = finding.rule().name();
-    entity_json(
+    push_entity(
         alloc,
+        out,
         facts,
         key.feed,
         id,
@@ -164,17 +213,18 @@ fn entity_value(
     )
 }
 
-fn finding_value(
+fn push_finding(
     alloc: Global,
+    out: &mut Writer,
     kind: LineKind,
     finding: &Finding,
     since: u64,
-) -> Result<Value, AllocError>
-    ensures { IfOk result (λ value. view value ≡ finding_data kind finding.now since) }
+) -> Result<(), AllocError>
+    ensures { OnOk result (Adds out.old out.new (tokens_of (finding_data kind finding.now since))) }
 {
     match finding.place() {
-        Place::Head(feed, slot) => head_value(alloc, kind, finding, *feed, *slot, since),
-        Place::Entity(key, path) => entity_value(alloc, kind, finding, key, *path, since),
+        Place::Head(feed, slot) => push_on_header(alloc, out, kind, finding, *feed, *slot, since),
+        Place::Entity(key, path) => push_at_entity(alloc, out, kind, finding, key, *path, since),
     }
 }
 
@@ -187,6 +237,9 @@ pub fn finding_line(
 ) -> Result<Vec<u8>, AllocError>
     ensures { IfOk result (λ bytes. bytes.items ≡ line_of (finding_data line finding.now since)) }
 {
-    let value = finding_value(alloc, line, finding, since)?;
-    line_of(alloc, &value)
+    let mut out = Writer::new(Vec::with_capacity(alloc, ROOM)?);
+    push_finding(alloc, &mut out, line, finding, since)?;
+    let mut bytes = out.into_inner();
+    bytes.push(b'\n')?;
+    Ok(bytes)
 }

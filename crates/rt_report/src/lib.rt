@@ -11,8 +11,11 @@ mod finding;
 mod line;
 mod prediction;
 mod snapshot;
+mod tokens;
+mod trial;
 
 pub use closed::closed_line;
 pub use finding::{LineKind, finding_line};
 pub use prediction::{prediction_head, prediction_rows};
 pub use snapshot::{accepted_line, refused_line};
+pub use trial::trial_line;
