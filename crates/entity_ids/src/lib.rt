@@ -1,0 +1,13 @@
+//! Which ids the bytes of an entity give: its own, and those by which a trip update and a vehicle position are paired.
+//!
+//! They are read from the fields, without decoding the entity, so that many entities can be put in order before the first is
+//! decoded. What they are is what the decoded entity would hold.
+//!
+//! - `paths`: the last payload at a path of slots
+//! - `ids`: the ids of an entity
+#![tactic(auto)]
+
+mod ids;
+mod paths;
+
+pub use ids::{Ids, entity_id, update_ids, vehicle_ids};
