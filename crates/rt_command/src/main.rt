@@ -1,69 +1,13 @@
 //! `rt_command`: validates GTFS Realtime 2.0 feeds.
 //!
-//! What [`run`] writes and answers is the report of its words, its moment and what the files hold:
-//! `specs/Reported.antt` defines it, down to the bytes, and the contract of `run` says it. What
-//! hinders a run, a failed read, a failed write or want of memory, is answered and told on the
-//! error stream, and what stands on the output is then a prefix of the report.
-//!
-//! From the bottom up:
-//! - `status` and `fault` are how a run ends, and why it stops before its end.
-//! - `command`, `options` and `request` are what the words ask for, and `words` reads them.
-//! - `lines` has the lines of findings, and `findings` those of a snapshot by itself, by all rules.
-//! - `snapshot_file` reads a snapshot, and `judge` makes the report on it, by what is `wanted` of it: its findings or its JSON
-//!   form.
-//! - `json_input` reads the snapshot that a JSON file says, and `input_fault` is why it isn't had.
-//! - `say` writes to the error stream, `refusal` why a timetable isn't loaded, and `list_fault` why a list isn't read.
-//! - `row` puts the snapshot of one row into the engine that follows feeds, and `rows` those of all rows; `telling` is what is
-//!   told of each.
-//! - `report_file` writes the report on one file, which is all of `show`. `check`, `follow`, `predict`
-//!   and `encode` carry out their commands, and `run` the request of the words.
-//! - `main` joins `run` to the system: its files, its streams, its clock and its words.
+//! It joins [`run`] to the system: its files, its streams, its clock and its words. What is written then, and the exit status,
+//! is what the contract of `run` says.
 #![tactic(auto)]
 
 ghost use Rattle.std.specs.Prelude.{◌≡◌};
 
-mod check;
-mod command;
-mod encode;
-mod fault;
-mod findings;
-mod follow;
-#[cfg(test)]
-mod follow_tests;
-#[cfg(test)]
-mod form_tests;
-mod input_fault;
-mod json_input;
-mod judge;
-mod lines;
-mod list_fault;
-mod options;
-mod predict;
-#[cfg(test)]
-mod predict_tests;
-mod refusal;
-mod report_file;
-mod request;
-mod row;
-mod rows;
-mod run;
-mod say;
-mod snapshot_file;
-mod status;
-mod telling;
-#[cfg(test)]
-mod tests;
-#[cfg(test)]
-mod timetable_tests;
-mod wanted;
-mod words;
-mod zone_input;
-mod zone_input_fault;
-mod zone_word;
-
 use rt_outside::{RealFiles, RealSink, Steps};
-use run::run;
-use status::Status;
+use rt_run::{Status, run};
 use std::alloc::AllocError;
 use std::env;
 use std::io::ErrorKind;

@@ -1,0 +1,87 @@
+-- Which report a file's bytes have.
+use Rattle.std.proofs.Common.{◌≡◌, ℕ, suc, ◌<◌, ◌++◌, Bool, List, [], ◌∷◌, map, length, nat_lt, true, refl, ap, sym, ◌∙◌, Some, None, arith, subst, IfSome, IsSomeAnd, Result, Err}
+use Rattle.std.specs.declared.option.Option.{Option}
+use Rattle.std.specs.FinMap.{get}
+use Rattle.std.specs.List.{flat_map}
+use Rattle.std.proofs.lemmas.Bool.Decides.{nat_tests}
+use Rattle.rt_outside.specs.Store.{Contents}
+use Rattle.rt_outside.specs.Read.{TellsWhole}
+use Rattle.rt_outside.specs.declared.read_end.ReadEnd.TheVariants as end
+use Rattle.feed_values.specs.Accepted.{snapshot_limit}
+use Rattle.feed_values.specs.Snapshot.{entities_of, entity_of, entity_payloads, header_of}
+use Rattle.feed_values.proofs.SnapshotFields.{snapshot_is_its_fields}
+use Rattle.feed_codec.specs.declared.refusal.Refusal.{Refusal}
+use Rattle.feed_codec.specs.declared.refusal.Reason.TheVariants.{TooLarge}
+use Rattle.feed_codec.specs.Refusal.{refusal, refused}
+use Rattle.timetable.specs.Timetables.{Tables}
+use Rattle.rule_core.specs.Found.{Found}
+use Rattle.rule_core.specs.History.{feed_limit, feed_limit-is}
+use Rattle.judging.specs.Judged.{snapshot_found}
+use Rattle.judging.proofs.OneSnapshot.{one_snapshot}
+use Rattle.rt_run.specs.Findings.{finding_text, has_error}
+use Rattle.rt_run.specs.Found.{snapshot_in, decoded}
+use Rattle.rt_run.specs.Rows.{bytes_in, unless_faulty}
+use Rattle.rt_run.specs.declared.wanted.Wanted.{Wanted}
+use Rattle.rt_run.proofs.Chosen.{each}
+use Rattle.rt_run.specs.Report.{Report, found, snapshot_report, judged_report}
+use Rattle.rt_run.specs.Judged.{accepts, accepted_report, accepted_text, first_taken, found_report, listed_report, snapshot_findings}
+
+-- what an accepted snapshot's bytes give is what it says gives
+feed_fits : 0 < feed_limit
+feed_fits = subst (λ n. 0 < n) (sym feed_limit-is) (omega arith)
+
+pub as_many : (bytes : List ℕ) → length (entity_payloads bytes) ≡ length (entities_of bytes)
+as_many bytes = sym (ap length (snapshot_is_its_fields.entities bytes) ∙ longs (entity_payloads bytes))
+  where
+    longs : (ps : List (List ℕ)) → length (map entity_of ps) ≡ length ps
+    longs [] = refl
+    longs (p ∷ ps) = ap suc (longs ps)
+
+module _ (t : Option Tables) (moment : ℕ) (bytes : List ℕ) where
+  abbrev listed : List Found
+  listed = snapshot_found t 0 moment (header_of bytes) (entities_of bytes)
+
+  accepted_is : accepted_report t moment bytes ≡ listed_report moment (length (entities_of bytes)) listed
+  unfolding snapshot_findings
+  accepted_is = ap (listed_report moment (length (entities_of bytes))) (one_snapshot t (first_taken moment bytes) feed_fits)
+
+  -- the line of an accepted snapshot and those of its findings are the text of its report
+  pub accepted_text_is : (count : ℕ) (line : List ℕ) → count ≡ length (entity_payloads bytes) → line ≡ accepted_text moment count → line ++ flat_map finding_text listed ≡ (accepted_report t moment bytes).text
+  accepted_text_is count line many is =
+      ap (λ front. front ++ flat_map finding_text listed) (is ∙ ap (accepted_text moment) (many ∙ as_many bytes)) ∙ sym (ap (λ r. r.text) accepted_is)
+
+  pub accepted_status_is : (error : Bool) → error ≡ has_error listed → found error ≡ (accepted_report t moment bytes).status
+  accepted_status_is error e = ap found e ∙ sym (ap (λ r. r.status) accepted_is)
+
+judged_is : (wanted : Wanted) (bytes : List ℕ) (o : Option Refusal) → judged_report (accepts wanted) bytes o ≡ found_report wanted (unless_faulty bytes o)
+judged_is wanted bytes (Some refusal) = refl
+judged_is wanted bytes None = refl
+
+report_is : (wanted : Wanted) (held : Option (List ℕ)) → snapshot_report (accepts wanted) held ≡ found_report wanted (bytes_in held)
+report_is wanted None = refl
+report_is wanted (Some bytes) = judged_is wanted bytes (refusal bytes)
+
+past : (n : ℕ) → snapshot_limit < n → nat_lt snapshot_limit n ≡ true
+past n l = grind (arith, nat_tests)
+
+pub large_refusal : (bytes : List ℕ) → snapshot_limit < length bytes → refusal bytes ≡ Some (refused snapshot_limit TooLarge)
+unfolding refusal
+large_refusal bytes l = rw (past (length bytes) l) refl
+
+large : (held : Option (List ℕ)) → IsSomeAnd held (λ bytes. snapshot_limit < length bytes) → snapshot_in held ≡ Err (refused snapshot_limit TooLarge)
+large None l = absurd l
+large (Some bytes) l = ap (decoded bytes) (large_refusal bytes l)
+
+-- bytes past the limit are refused
+pub large_snapshot : (told : Option Contents) (file : List ℕ) → IfSome told (λ held. TellsWhole held file snapshot_limit (Err end.TooLarge)) →
+    IfSome told (λ held. snapshot_in (get held file) ≡ Err (refused snapshot_limit TooLarge))
+large_snapshot None file l = tt
+large_snapshot (Some held) file l = large (get held file) l
+
+-- what was found in a file gives its report
+module _ (told : Option Contents) (wanted : Wanted) (file : List ℕ) (found : Result (List ℕ) Refusal) (is : IfSome told (λ held. bytes_in (get held file) ≡ found)) where
+  abbrev report_in : Contents → Report
+  report_in held = snapshot_report (accepts wanted) (get held file)
+
+  pub report_said : (P : Report → Type 0) → P (found_report wanted found) → IfSome told (λ held. P (report_in held))
+  report_said P p = each told _ (λ held. P (report_in held)) (λ held e. subst P (sym (report_is wanted (get held file) ∙ ap (found_report wanted) e)) p) is

@@ -1,0 +1,28 @@
+use Rattle.std.proofs.Common.{refl}
+use Rattle.rt_outside.specs.Store.{contents_told}
+use Rattle.rt_run.specs.Report.{shown_report, file_report, encode_report}
+use Rattle.rt_run.proofs.Asked.{one_report, carried_listed, one_predicted}
+use Rattle.rt_run.proofs.Carried.{carried_at, carried_name}
+use Rattle.rt_run.proofs.running.carry_out.Goals as goal
+
+pub returns-in-Check-clause-carried : goal.returns-in-Check-clause-carried
+returns-in-Check-clause-carried g c =
+    rw c.in-Check.is (one_report _ _ _ _ c.check.result (carried_at _ _ c.unwrap_or-moment.result _ _ _ _ _ c.check.result c.as_ref-folder.ensures.value c.unwrap_or-moment.ensures refl c.check.ensures.carried))
+
+pub returns-in-Follow-clause-carried : goal.returns-in-Follow-clause-carried
+returns-in-Follow-clause-carried g c =
+    rw c.in-Follow.is (one_report _ _ _ _ c.follow.result (carried_listed _ _ _ _ _ _ _ c.follow.result c.as_ref-folder-in-Follow.ensures.value c.as_str.ensures c.follow.ensures))
+
+pub returns-in-Predict-clause-carried : goal.returns-in-Predict-clause-carried
+returns-in-Predict-clause-carried g c =
+    rw c.in-Predict.is (one_predicted (contents_told (g.F.Files.state c.args.files.now).told) _ c.in-Predict.moment c.args.now _ _ _ _ _ _ _ c.predict.result c.as_str-in-Predict.ensures c.unwrap_or-moment-in-Predict.ensures c.as_str-in-Predict-2.ensures c.predict.ensures)
+
+pub returns-in-Show-clause-carried : goal.returns-in-Show-clause-carried
+returns-in-Show-clause-carried g c =
+    rw c.in-Show.is (one_report _ _ _ _ c.report_file.result (carried_name (file_report shown_report) _ _ _ _ c.report_file.result c.as_str-in-Show.ensures c.report_file.ensures))
+
+pub returns-in-Encode-clause-carried : goal.returns-in-Encode-clause-carried
+returns-in-Encode-clause-carried g c = rw c.in-Encode.is (one_report _ _ _ _ c.encode.result (carried_name encode_report _ _ _ _ c.encode.result c.as_str-in-Encode.ensures c.encode.ensures))
+
+pub returns-in-Trial-clause-carried : goal.returns-in-Trial-clause-carried
+returns-in-Trial-clause-carried g c = rw c.in-Trial.is (one_report _ _ _ _ c.trial.result (c.trial.ensures (g.F.Files.state c.args.files.now)))

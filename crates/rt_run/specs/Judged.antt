@@ -1,0 +1,60 @@
+-- What the report on one snapshot is, by its bytes.
+use Rattle.std.specs.Prelude.{◌≡◌, ℕ, List, [], ◌∷◌, ◌++◌, length, Option, Result, Ok, Err}
+use Rattle.std.specs.List.{flat_map}
+use Rattle.std.specs.Io.KnownBytes.{append_known}
+use Rattle.feed_values.specs.Schema.{Value}
+use Rattle.feed_values.specs.Messages.{feed_message}
+use Rattle.feed_values.specs.Snapshot.{entities_of}
+use Rattle.feed_codec.specs.declared.refusal.Refusal.{Refusal}
+use Rattle.serde_json.specs.Written.{compact_text}
+use Rattle.feed_json.specs.Form.{form}
+use Rattle.timetable.specs.Timetables.{Tables}
+use Rattle.rule_core.specs.Answered.{tables_of}
+use Rattle.rule_core.specs.Findings.{findings}
+use Rattle.rule_core.specs.Found.{Found}
+use Rattle.rule_core.specs.History.{Snapshot}
+use Rattle.rt_report.specs.Lines.{line_of, accepted}
+use Rattle.rt_run.specs.declared.status.Status.{Status}
+use Rattle.rt_run.specs.declared.status.Status.TheVariants as answer
+use Rattle.rt_run.specs.declared.wanted.Wanted.{Wanted}
+use Rattle.rt_run.specs.declared.wanted.Wanted.TheVariants.{Findings, Form}
+use Rattle.rt_run.specs.Findings.{finding_text, has_error}
+use Rattle.rt_run.specs.Report.{Report, found, refused_report, shown_report}
+
+-- the answer is the report's, and all of its text was appended to what was written before
+abbrev pub IsPut : Report → Option (List ℕ) → Option (List ℕ) → Status → Type 0
+IsPut report before after status = (status ≡ report.status) × (after ≡ append_known before report.text)
+
+-- the line of the first snapshot of a run, whose entities are all new
+abbrev pub accepted_text : ℕ → ℕ → List ℕ
+accepted_text moment entities = line_of (accepted 0 0 0 moment entities entities entities entities)
+
+-- an accepted snapshot with so many entities is a line, and then its findings
+abbrev pub listed_report : ℕ → ℕ → List Found → Report
+listed_report moment entities findings = record { text = accepted_text moment entities ++ flat_map finding_text findings; errors = []; status = found (has_error findings) }
+
+-- the bytes of a snapshot of feed 0, taken at a moment
+abbrev pub first_taken : ℕ → List ℕ → Snapshot
+first_taken moment bytes = record { feed = 0; moment = moment; bytes = bytes }
+
+-- all findings with a timetable after the history of this one snapshot
+unfoldable pub snapshot_findings : Option Tables → ℕ → List ℕ → List Found
+snapshot_findings t moment bytes = findings t (first_taken moment bytes ∷ [])
+
+-- what `check` of one file makes of an accepted snapshot
+abbrev pub accepted_report : Option Tables → ℕ → List ℕ → Report
+accepted_report t moment bytes = listed_report moment (length (entities_of bytes)) (snapshot_findings t moment bytes)
+
+-- what a command makes of an accepted snapshot, by what it wants
+abbrev pub accepts : Wanted → List ℕ → Report
+accepts (Findings moment timetable) bytes = accepted_report (tables_of timetable.now) moment bytes
+accepts Form bytes = shown_report bytes
+
+-- of the bytes of a snapshot that was accepted, or why it was refused
+abbrev pub found_report : Wanted → Result (List ℕ) Refusal → Report
+found_report wanted (Ok bytes) = accepts wanted bytes
+found_report wanted (Err refusal) = refused_report refusal
+
+-- ---- of what a snapshot says
+abbrev pub form_report : Value feed_message → Report
+form_report v = record { text = compact_text (form feed_message v) ++ 10 ∷ []; errors = []; status = answer.Clean }

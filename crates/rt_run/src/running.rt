@@ -1,0 +1,148 @@
+//! The whole of what the program does.
+ghost use Rattle.std.specs.Prelude.{◌≡◌, ◌⊎◌, Some, None, map, string_bytes};
+ghost use Rattle.rt_outside.specs.Causes.{Rose};
+ghost use Rattle.rt_outside.specs.Store.{contents_told};
+ghost use Rattle.rt_run.specs.Words.{request, NamesFiles};
+ghost use Rattle.rt_run.specs.Predicted.{CarriesOutOne};
+ghost use Rattle.rt_run.specs.Reported.{IsAsked, IsReport, TellsReport};
+ghost use Rattle.rt_run.specs.Outside.{outside};
+ghost use Rattle.rt_run.specs.Faults.{Reads, IsWithoutRequest, IsWithoutEngine, TellsFault};
+
+use crate::check::check;
+use crate::encode::encode;
+use crate::follow::follow;
+use crate::prediction::predict;
+use crate::report_file::report_file;
+use crate::request::Request;
+use crate::say::{say, say_memory};
+use crate::status::Status;
+use crate::trial::trial;
+use crate::wanted::Wanted;
+use crate::words::words_of;
+use rt_outside::{Files, Sink, Steps};
+use std::alloc::Global;
+use std::sync::ledger::Ledger;
+
+const USAGE: &[u8] = b"usage: rt_command check [--timetable DIR] [--now N] FILE...
+       rt_command follow [--timetable DIR] --list FILE
+       rt_command predict --timetable DIR (--zone-rule TEXT | --zone-file FILE) [--now N] FILE
+       rt_command show FILE
+       rt_command encode FILE
+       rt_command trial N
+";
+
+/// Carries out the request of the words after the program's name, at the moment `now`, as POSIX
+/// time in seconds.
+///
+/// Want of memory is the one answer that may come at any time. The two counters, of decodings and
+/// of rule tests, are handed to the engine that follows feeds, which judges all of them but a single
+/// file of `check`.
+pub fn run<F: Files, S: Sink, E: Sink, D: Ledger, T: Ledger>(
+    alloc: Global,
+    words: &[String],
+    now: u64,
+    files: &mut F,
+    out: &mut S,
+    err: &mut E,
+    decodes: &mut Steps<D>,
+    tests: &mut Steps<T>,
+) -> Status
+    // A prefix of a report on the words was written to the output. Where the answer is one that a report may have, all of it was,
+    // and the answer and what was written to the error stream are the report's.
+    ensures report { TellsReport (IsReport (map string_bytes words.now) now)
+        (outside (F.state files.old) (S.state out.old) (E.state err.old))
+        (outside (F.state files.new) (S.state out.new) (E.state err.new)) result }
+
+    // The words give no request exactly where the answer is Usage, but for want of memory and a failed write.
+    ensures usage { result ≡ Status.Usage → request (map string_bytes words.now) ≡ None }
+    ensures no_request { request (map string_bytes words.now) ≡ None → IsWithoutRequest result }
+
+    // A fault comes only where a count of faults shows it.
+    ensures read_fault { result ≡ Status.ReadFault
+        → Rose (F.state files.old).faults (F.state files.new).faults }
+    ensures write_fault { result ≡ Status.WriteFault
+        → Rose (S.state out.old).faults (S.state out.new).faults ⊎ Rose (E.state err.old).faults (E.state err.new).faults }
+
+    // Each fault is told on the error stream.
+    ensures told { TellsFault (Reads (request (map string_bytes words.now)) (contents_told (F.state files.old).told)) (F.state files.new).asked
+        (E.state err.old) (E.state err.new) result }
+
+    // The counters stay where no engine is asked.
+    ensures decodes { IsWithoutEngine (request (map string_bytes words.now)) → decodes.new ≡ decodes.old }
+    ensures tests { IsWithoutEngine (request (map string_bytes words.now)) → tests.new ≡ tests.old }
+{
+    match words_of(alloc, words) {
+        Err(_) => say_memory(err),
+        Ok(None) => say(err, USAGE, Status::Usage),
+        Ok(Some(request)) => carry_out(alloc, &request, now, files, out, err, decodes, tests),
+    }
+}
+
+// Carries out a request.
+fn carry_out<F: Files, S: Sink, E: Sink, D: Ledger, T: Ledger>(
+    alloc: Global,
+    request: &Request,
+    now: u64,
+    files: &mut F,
+    out: &mut S,
+    err: &mut E,
+    decodes: &mut Steps<D>,
+    tests: &mut Steps<T>,
+) -> Status
+    requires { NamesFiles request.now }
+    ensures carried { CarriesOutOne (IsAsked request.now now) (Reads (Some request.now) (contents_told (F.state files.old).told))
+        (outside (F.state files.old) (S.state out.old) (E.state err.old))
+        (outside (F.state files.new) (S.state out.new) (E.state err.new)) result }
+    ensures decodes { IsWithoutEngine (Some request.now) → decodes.new ≡ decodes.old }
+    ensures tests { IsWithoutEngine (Some request.now) → tests.new ≡ tests.old }
+{
+    match request {
+        Request::Check {
+            folder,
+            now: moment,
+            files: names,
+        } => {
+            let moment = moment.unwrap_or(now);
+            let folder = folder.as_ref();
+            check(
+                alloc, moment, folder, names, files, out, err, decodes, tests,
+            )
+        }
+        Request::Follow { folder, list } => {
+            let folder = folder.as_ref();
+            follow(
+                alloc,
+                folder,
+                list.as_str(),
+                files,
+                out,
+                err,
+                decodes,
+                tests,
+            )
+        }
+        Request::Predict {
+            folder,
+            zone,
+            now: moment,
+            file,
+        } => {
+            let moment = moment.unwrap_or(now);
+            predict(
+                alloc,
+                folder.as_str(),
+                zone,
+                moment,
+                file.as_str(),
+                files,
+                out,
+                err,
+            )
+        }
+        Request::Show { file } => {
+            report_file(alloc, Wanted::Form, file.as_str(), files, out, err)
+        }
+        Request::Encode { file } => encode(alloc, file.as_str(), files, out, err),
+        Request::Trial { seed } => trial(alloc, *seed, out, err, decodes, tests),
+    }
+}
