@@ -45,12 +45,13 @@ fn town_files() -> &'static [(&'static str, &'static str)] {
     &TOWN
 }
 
-fn town(alloc: Global) -> Result<Timetable, Fail> {
+// The timetable is boxed, so that a test drops one box.
+fn town(alloc: Global) -> Result<Box<Timetable>, Fail> {
     let mut files = QuietFiles::new(alloc);
     for (name, text) in town_files() {
         files.add(name, text.as_bytes())?;
     }
-    Ok(Timetable::load(alloc, &mut files, "town")?)
+    Ok(Box::new(alloc, Timetable::load(alloc, &mut files, "town")?)?)
 }
 
 /// A day of the service WK: 2023-10-31 and 2023-11-01, 2023-11-14 to 2023-11-19, 2023-12-29, 2023-12-31 and 2024-01-01.

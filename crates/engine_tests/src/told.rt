@@ -15,10 +15,10 @@ use timetable::Timetable;
 /// A snapshot that comes: its feed, its moment, and its bytes in hex digits, in parts.
 pub type Came = (u8, u64, &'static [&'static str]);
 
-/// An engine, and what it said of each snapshot.
+/// An engine, and what it said of each snapshot. The engine is boxed, so that each way out of a function here drops one box.
 #[derive(Drop)]
 pub struct Outcome {
-    pub engine: Engine,
+    pub engine: Box<Engine>,
     pub text: String,
 }
 
@@ -32,23 +32,25 @@ fn kept(alloc: Global, parts: &[&str]) -> Result<Kept, Fail> {
 
 /// The engine after one more snapshot, with what that changed. A feed past 15 isn't tried, and no millionth snapshot.
 fn apply<D: Ledger, T: Ledger>(
-    engine: Engine,
+    alloc: Global,
+    engine: Box<Engine>,
     feed: u8,
     moment: u64,
     kept: Kept,
     decodes: &mut Steps<D>,
     tests: &mut Steps<T>,
-) -> Result<(Engine, Delta), AllocError> {
+) -> Result<(Box<Engine>, Delta), AllocError> {
     if feed > 15 || engine.applied() >= 1_000_000 {
         return Err(AllocError);
     }
-    engine.apply(feed, moment, kept, decodes, tests)
+    let (next, delta) = Box::into_inner(engine).apply(feed, moment, kept, decodes, tests)?;
+    Ok((Box::new(alloc, next)?, delta))
 }
 
 /// The engine after some snapshots, and what it said of each.
 fn follow<D: Ledger, T: Ledger>(
     alloc: Global,
-    engine: Engine,
+    engine: Box<Engine>,
     history: &[Came],
     decodes: Blank,
     tests: Blank,
@@ -66,7 +68,15 @@ fn follow<D: Ledger, T: Ledger>(
     let mut text = String::from_str(alloc, "\n")?;
     for (feed, moment, parts) in history {
         let kept = kept(alloc, parts)?;
-        let (next, delta) = apply(engine, *feed, *moment, kept, &mut decodes, &mut tests)?;
+        let (next, delta) = apply(
+            alloc,
+            engine,
+            *feed,
+            *moment,
+            kept,
+            &mut decodes,
+            &mut tests,
+        )?;
         engine = next;
         text.push_str(delta_text(alloc, &delta)?.as_str())?;
     }
@@ -75,7 +85,7 @@ fn follow<D: Ledger, T: Ledger>(
 
 /// An engine with a timetable after some snapshots, and what it said of each.
 pub fn followed(alloc: Global, table: Timetable, history: &[Came]) -> Result<Outcome, Fail> {
-    let engine = Engine::new(alloc, table);
+    let engine = Box::new(alloc, Engine::new(alloc, table))?;
     follow::<Brand, Brand>(alloc, engine, history, Blank::new(1), Blank::new(1))
 }
 

@@ -1,10 +1,11 @@
 //! Each case of an event and each state, a loop, a town after midnight, and the ends of 32 bits.
 
-use crate::made::{Said, Told, Trip, predictions, row_is_at, row_says, rows_say, table_of};
+use crate::made::{
+    Said, Told, Trip, predictions, row_is_at, row_says, rows_say, table_of, zone_of,
+};
 use propagation::{EventKind, Predictions, RowState, Source};
 use std::alloc::Global;
 use std::test::Fail;
-use trip_calendar::Zone;
 
 /// W1 has no times at its third stop. O1 goes from A to B and C and back to A. T2 begins at 24:50:00.
 const TOWN: [(&str, &str); 6] = [
@@ -36,7 +37,7 @@ fn town_files() -> &'static [(&'static str, &'static str)] {
 
 fn town(alloc: Global, rule: &str, trip: Trip, told: &[Told]) -> Result<Predictions, Fail> {
     let table = table_of(alloc, "town", town_files())?;
-    let zone = Zone::from_rule(alloc, rule)?;
+    let zone = zone_of(alloc, rule)?;
     Ok(predictions(alloc, &table, &zone, trip, told)?)
 }
 

@@ -1,10 +1,11 @@
 //! A line of twenty stops, a minute between each two. The expected values are worked by hand.
 
-use crate::made::{Said, Told, Trip, predictions, row_is_at, row_says, rows_say, table_of};
+use crate::made::{
+    Said, Told, Trip, predictions, row_is_at, row_says, rows_say, table_of, zone_of,
+};
 use propagation::{EventKind, Predictions, RowState, Source};
 use std::alloc::Global;
 use std::test::Fail;
-use trip_calendar::Zone;
 
 /// L1 begins at 08:00:00, which on 2023-11-14 in UTC is 1,699,948,800, and stops at Q1 to Q20.
 const LINE: [(&str, &str); 6] = [
@@ -47,7 +48,7 @@ fn line_trip(relationship: Option<u32>) -> Trip {
 
 fn line(alloc: Global, trip: Trip, told: &[Told]) -> Result<Predictions, Fail> {
     let table = table_of(alloc, "line", line_files())?;
-    let zone = Zone::from_rule(alloc, "UTC0")?;
+    let zone = zone_of(alloc, "UTC0")?;
     Ok(predictions(alloc, &table, &zone, trip, told)?)
 }
 

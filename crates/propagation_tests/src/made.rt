@@ -8,17 +8,17 @@ use std::test::Fail;
 use timetable::Timetable;
 use trip_calendar::Zone;
 
-/// The timetable of some files.
+/// The timetable of some files. It is boxed, so that a test drops one box.
 pub fn table_of(
     alloc: Global,
     folder: &str,
     texts: &[(&'static str, &'static str)],
-) -> Result<Timetable, Fail> {
+) -> Result<Box<Timetable>, Fail> {
     let mut files = QuietFiles::new(alloc);
     for (name, text) in texts {
         files.add(name, text.as_bytes())?;
     }
-    Ok(Timetable::load(alloc, &mut files, folder)?)
+    Ok(Box::new(alloc, Timetable::load(alloc, &mut files, folder)?)?)
 }
 
 /// The delay and the time that an event states. An event is given where it states one.
@@ -84,28 +84,38 @@ pub struct Trip {
     pub delay: Option<i32>,
 }
 
+fn descriptor(alloc: Global, trip: Trip) -> Result<TripDescriptor, AllocError> {
+    Ok(TripDescriptor {
+        trip_id: given_text(alloc, Some(trip.id))?,
+        start_time: None,
+        start_date: given_text(alloc, trip.date)?,
+        schedule_relationship: trip.relationship,
+        route_id: None,
+        direction_id: None,
+        unknown: Items::new(alloc),
+    })
+}
+
 /// A trip update with these updates.
 pub fn update_with(
     alloc: Global,
     trip: Trip,
     items: Items<StopTimeUpdate>,
-) -> Result<TripUpdate, AllocError> {
-    Ok(TripUpdate {
-        trip: TripDescriptor {
-            trip_id: given_text(alloc, Some(trip.id))?,
-            start_time: None,
-            start_date: given_text(alloc, trip.date)?,
-            schedule_relationship: trip.relationship,
-            route_id: None,
-            direction_id: None,
-            unknown: Items::new(alloc),
-        },
+) -> Result<Box<TripUpdate>, AllocError> {
+    let update = TripUpdate {
+        trip: descriptor(alloc, trip)?,
         stop_time_update: items,
         vehicle: None,
         timestamp: None,
         delay: trip.delay,
         unknown: Items::new(alloc),
-    })
+    };
+    Ok(Box::new(alloc, update)?)
+}
+
+/// The zone of a rule.
+pub fn zone_of(alloc: Global, rule: &str) -> Result<Box<Zone>, Fail> {
+    Ok(Box::new(alloc, Zone::from_rule(alloc, rule)?)?)
 }
 
 /// What is predicted of a trip update. One of a million updates isn't tried.

@@ -1,13 +1,12 @@
 //! A thousand stops with a thousand updates that state stop ids alone.
 
-use crate::made::{Trip, predicted, text_of, update, update_with};
+use crate::made::{Trip, predicted, text_of, update, update_with, zone_of};
 use feed_values::{Items, StopTimeUpdate};
 use propagation::{PredictionRow, Predictions, Source};
 use rt_outside::QuietFiles;
 use std::alloc::{AllocError, Global};
 use std::test::Fail;
 use timetable::Timetable;
-use trip_calendar::Zone;
 
 /// The header of stop_times.txt.
 const HEADER: &[u8] = b"trip_id,arrival_time,departure_time,stop_id,stop_sequence\n";
@@ -50,10 +49,10 @@ fn files(alloc: Global) -> Result<QuietFiles, AllocError> {
     Ok(files)
 }
 
-fn timetable(alloc: Global) -> Result<Timetable, Fail> {
+fn timetable(alloc: Global) -> Result<Box<Timetable>, Fail> {
     let mut files = files(alloc)?;
     files.add("many/stop_times.txt", &visits(alloc)?)?;
-    Ok(Timetable::load(alloc, &mut files, "many")?)
+    Ok(Box::new(alloc, Timetable::load(alloc, &mut files, "many")?)?)
 }
 
 // An arrival at a stop that is as many seconds late as the stop's number.
@@ -108,7 +107,7 @@ fn many_trip() -> Trip {
 
 fn found(alloc: Global) -> Result<Predictions, Fail> {
     let table = timetable(alloc)?;
-    let zone = Zone::from_rule(alloc, "UTC0")?;
+    let zone = zone_of(alloc, "UTC0")?;
     let given = update_with(alloc, many_trip(), updates(alloc)?)?;
     Ok(predicted(alloc, &table, &zone, &given, 0)?)
 }

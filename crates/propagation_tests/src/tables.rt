@@ -1,6 +1,6 @@
 //! The rows of the table of stop events, as worked by hand.
 
-use crate::made::{Told, Trip, predicted, table_of, update_with, updates};
+use crate::made::{Told, Trip, predicted, table_of, update_with, updates, zone_of};
 use rt_report::{prediction_head, prediction_rows};
 use std::alloc::{AllocError, Global};
 use std::test::Fail;
@@ -61,7 +61,7 @@ fn has_rows(
     want: &str,
 ) -> Result<bool, Fail> {
     let table = table_of(alloc, "odd", odd_files())?;
-    let zone = Zone::from_rule(alloc, "UTC0")?;
+    let zone = zone_of(alloc, "UTC0")?;
     let rows = rows_of(alloc, &table, &zone, id, occurrence, trip, told)?;
     Ok(rows.as_slice() == want.as_bytes())
 }

@@ -6,7 +6,7 @@ mod files;
 mod lookups;
 mod wanted;
 
-use rt_outside::MemoryFiles;
+use rt_outside::{Files, MemoryFiles};
 use std::alloc::Global;
 use std::test::Fail;
 use timetable::{File, LoadFault, Timetable};
@@ -77,16 +77,21 @@ fn town_with(alloc: Global, name: &str, bytes: &[u8]) -> Result<MemoryFiles, Fai
     Ok(files)
 }
 
+/// A timetable from files. It is boxed, so that a test drops one box.
+fn loaded<F: Files + Drop>(
+    alloc: Global,
+    mut files: F,
+    folder: &str,
+) -> Result<Box<Timetable>, Fail> {
+    Ok(Box::new(alloc, Timetable::load(alloc, &mut files, folder)?)?)
+}
+
 /// The timetable of a town with a file more, or with another one of that name.
-fn loaded_with(alloc: Global, name: &str, bytes: &[u8]) -> Result<Timetable, Fail> {
-    let mut files = town_with(alloc, name, bytes)?;
-    Ok(Timetable::load(alloc, &mut files, "town")?)
+fn loaded_with(alloc: Global, name: &str, bytes: &[u8]) -> Result<Box<Timetable>, Fail> {
+    loaded(alloc, town_with(alloc, name, bytes)?, "town")
 }
 
 /// The fault of a town.
-fn fault_of(alloc: Global, mut files: MemoryFiles) -> Option<LoadFault> {
-    match Timetable::load(alloc, &mut files, "town") {
-        Ok(_) => None,
-        Err(fault) => Some(fault),
-    }
+fn fault_of<F: Files + Drop>(alloc: Global, mut files: F) -> Option<LoadFault> {
+    Timetable::load(alloc, &mut files, "town").err()
 }

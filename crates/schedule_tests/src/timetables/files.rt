@@ -92,16 +92,13 @@ fn fault_at_size(
         town.add(name, bytes)?;
     }
     town.add(DATES.0, DATES.1)?;
-    let mut files = Lengthened {
+    let files = Lengthened {
         files: town,
         name,
         size,
         given: None,
     };
-    match Timetable::load(alloc, &mut files, "town") {
-        Ok(_) => Ok(None),
-        Err(fault) => Ok(Some(fault)),
-    }
+    Ok(fault_of(alloc, files))
 }
 
 #[test]

@@ -1,7 +1,7 @@
 //! Each look-up, on whole timetables.
 
 use crate::timetables::wanted::{Wanted, expect_frequencies, expect_none_at, expect_trip};
-use crate::timetables::{DATES, Named, loaded_with, town};
+use crate::timetables::{DATES, Named, loaded, loaded_with, town};
 use rt_day::Day;
 use rt_outside::MemoryFiles;
 use std::alloc::Global;
@@ -70,9 +70,8 @@ fn expect_service(rt: &impl Abort, table: &Timetable, id: &str) {
     }
 }
 
-fn loaded_town(alloc: Global) -> Result<Timetable, Fail> {
-    let mut files = town(alloc)?;
-    Ok(Timetable::load(alloc, &mut files, "town")?)
+fn loaded_town(alloc: Global) -> Result<Box<Timetable>, Fail> {
+    loaded(alloc, town(alloc)?, "town")
 }
 
 #[test]
@@ -175,7 +174,7 @@ fn a_line_answers_its_trip(rt: HostRuntime) -> Result<(), Fail> {
     for (name, bytes) in LINE {
         files.add(name, bytes)?;
     }
-    let table = Timetable::load(alloc, &mut files, "line")?;
+    let table = loaded(alloc, files, "line")?;
     expect_trip(&rt, &table, &LINE_TRIP);
     expect_none_at(&rt, &table, "L1", 21);
     expect_service(&rt, &table, "L1");
@@ -295,7 +294,7 @@ T2,25:10:00,25:10:00,S2,2\nX9,02:00:00,02:00:00,X,3\n",
         "town/frequencies.txt",
         b"trip_id,start_time,end_time,headway_secs\nX9,01:00:00,02:00:00,60\n",
     )?;
-    let table = Timetable::load(alloc, &mut files, "town")?;
+    let table = loaded(alloc, files, "town")?;
     assert!(rt; table.trip("X9").is_none());
     expect_trip(&rt, &table, &TRIPS[1]);
     expect_frequencies(&rt, &table, "T2", &[]);
