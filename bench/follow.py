@@ -2,8 +2,8 @@
 """Seconds and peak memory of `rt_command follow`: follow.py [PROGRAM].
 
 Lists of snapshots of two feeds in turn, 30 seconds apart: trip updates of known trips with 20 updates each, and vehicles for three
-of ten of them, of which a few change each time; then 2,000 entities in each feed, of which 20 change; and last a trip update
-with 300,000 updates that each break a rule, twice in a row. The lists of 40 and 160 snapshots show what a history costs. The
+of ten of them, of which a few change each time; then 2,000 entities in each feed, of which 20 change; then a trip update
+with 300,000 updates that each break a rule, twice in a row; and last 10,000 and 40,000 rows over three small snapshots. The lists of 40 and 160 snapshots show what a history costs. The
 program is crates/rt_command/out/rt_command by default. Each row is the best of three runs, with how many findings opened and
 how many rules closed at places.
 """
@@ -80,6 +80,17 @@ def one_entity(folder, updates):
             put(folder, file, row, 0, BEGIN + 30 * row, payload(2, payload(1, b"t") + payload(3, payload(1, trip(0)) + stops)))
 
 
+def many_rows(folder, rows):
+    """Writes a list of so many rows, which name three small snapshots of 16 feeds in turn."""
+    names = [os.path.join(folder, "small%d" % k) for k in range(3)]
+    for k, name in enumerate(names):
+        with open(name, "wb") as snapshot:
+            snapshot.write(header(BEGIN + k) + b"".join(small_vehicle(i, k) for i in range(2)))
+    with open(os.path.join(folder, "list"), "w") as file:
+        for row in range(rows):
+            file.write("%d,%d,%s\n" % (row % 16, BEGIN + row // 16, names[row % 3]))
+
+
 def table(folder, count):
     """A timetable of so many trips, with 20 stop times each."""
     trips, times = ordinary(count * STOPS)
@@ -116,6 +127,10 @@ def main():
         with tempfile.TemporaryDirectory() as folder:
             one_entity(folder, updates)
             measured("one entity with %d updates, 2 rows" % updates, [], folder)
+    for rows in (10_000, 40_000):
+        with tempfile.TemporaryDirectory() as folder:
+            many_rows(folder, rows)
+            measured("2 entities a snapshot, %d rows" % rows, [], folder)
 
 
 if __name__ == "__main__":

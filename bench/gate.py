@@ -4,9 +4,9 @@
     python3 bench/gate.py [CRATE..]
 
 Runs `rt ci --anew`, or `rt ci --anew CRATE..`, and prints the processor minutes of each crate's proofs, of its tests and of
-its must-fail edits, then the twenty slowest edits, and the twenty functions before whose line the log waited longest (four
-functions are checked at a time, so this names a slow function and doesn't measure it). The last line has the minutes on the
-clock, those of all processors, and how rt ci ended. What rt ci prints goes to standard error.
+its must-fail edits, then the twenty slowest edits. The last line has the minutes on the clock, those of all processors, and
+how rt ci ended. What rt ci prints goes to standard error. Which function of a crate is slow is told by `rt check` there, which
+says each as it is checked.
 """
 
 import collections
@@ -105,15 +105,10 @@ def main():
     child = subprocess.Popen(["rt", "ci", "--anew", *sys.argv[1:]], cwd=TOP, text=True, stdout=subprocess.PIPE, stderr=subprocess.STDOUT)
     meter = Meter(child.pid)
     meter.start()
-    waits, last, closing = [], collections.defaultdict(time.monotonic), ""
+    closing = ""
     for line in child.stdout:
         print(line, end="", file=sys.stderr, flush=True)
         closing = line.strip() or closing
-        told = re.match(r"checked (([a-z0-9_]+)::\S+), \d+ of \d+", line)
-        if told:
-            now = time.monotonic()
-            waits.append((now - last[told[2]], told[1]))
-            last[told[2]] = now
     status = child.wait()
     meter.ended = True
     meter.join()
@@ -134,9 +129,6 @@ def main():
     print(f"{'all crates':24}" + "".join(f"{seconds / 60:9.1f}" for seconds in sums))
     print("\nslowest edits, in processor seconds")
     for name, seconds in by_edit.most_common(20):
-        print(f"{seconds:7.0f} {name}")
-    print("\nlongest waits before a function's line, in seconds")
-    for seconds, name in sorted(waits, reverse=True)[:20]:
         print(f"{seconds:7.0f} {name}")
     print(f"\n{(time.monotonic() - begin) / 60:.1f} minutes, {(sum(sums) + other) / 60:.1f} of all processors; {closing}")
     return status
