@@ -11,7 +11,7 @@ HERE = pathlib.Path(__file__).resolve().parent
 FILES = ["city", "feed.pb", "list.csv"]
 # What is typed, and what is offered.
 CASES = [
-    ("", ["check", "encode", "follow", "predict", "show"]),
+    ("", ["check", "encode", "follow", "predict", "show", "trial"]),
     ("ch", ["check"]),
     ("check --", ["--now", "--timetable"]),
     ("check --now 5 --", ["--timetable"]),
@@ -19,6 +19,7 @@ CASES = [
     ("check --timetable ", ["city"]),
     ("check fe", ["feed.pb"]),
     ("check feed.pb --", []),
+    ("check feed.pb li", ["list.csv"]),
     ("follow --", ["--list", "--timetable"]),
     ("follow --list l", ["list.csv"]),
     ("predict --", ["--now", "--timetable", "--zone-file", "--zone-rule"]),
@@ -27,6 +28,7 @@ CASES = [
     ("show --", []),
     ("show fe", ["feed.pb"]),
     ("encode li", ["list.csv"]),
+    ("trial ", []),
     ("wrong --", []),
 ]
 

@@ -2,11 +2,12 @@
 
 # Of each command: how many files it takes, and its options.
 declare -gA _rt_command_takes=(
-    [check]='1 --timetable --now'
+    [check]='16 --timetable --now'
     [follow]='0 --timetable --list'
     [predict]='1 --timetable --zone-rule --zone-file --now'
     [show]='1'
     [encode]='1'
+    [trial]='0'
 )
 
 _rt_command() {

@@ -24,7 +24,7 @@ complete -c rt_command -n '__rt_command_value_of --timetable' -f -k -a '(__rt_co
 complete -c rt_command -n '__rt_command_value_of --now --zone-rule' -f
 complete -c rt_command -n __fish_use_subcommand -f
 
-complete -c rt_command -n __fish_use_subcommand -a check -d 'judge a snapshot'
+complete -c rt_command -n __fish_use_subcommand -a check -d 'judge snapshots'
 complete -c rt_command -n '__rt_command_takes check --timetable' -a --timetable -d 'folder of the timetable'
 complete -c rt_command -n '__rt_command_takes check --now' -a --now -d 'moment in seconds since 1970'
 
@@ -41,3 +41,6 @@ complete -c rt_command -n '__rt_command_takes predict --now' -a --now -d 'moment
 complete -c rt_command -n __fish_use_subcommand -a show -d 'write a snapshot as JSON'
 
 complete -c rt_command -n __fish_use_subcommand -a encode -d 'write the snapshot that JSON says'
+
+complete -c rt_command -n __fish_use_subcommand -a trial -d 'follow two feeds made from a number'
+complete -c rt_command -n '__fish_seen_subcommand_from trial' -f
