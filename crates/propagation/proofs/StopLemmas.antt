@@ -1,5 +1,5 @@
 -- Where the stops of a trip stand.
-use Rattle.std.proofs.Common.{◌≡◌, ◌<◌, ◌≤◌, ◌==◌, ◌∷◌, [], ℕ, zero, suc, List, length, map, Bool, true, false, T, cond, bytes_eq, subst, Some, None, Option, slice_get, option_map, unwrap_or, refl, sym, ap, ⊎_elim, ◌∙◌, arith}
+use Rattle.std.proofs.Common.{◌≡◌, ◌+◌, ◌<◌, ◌≤◌, ◌==◌, ◌∷◌, [], ℕ, zero, suc, List, length, map, Bool, true, false, T, cond, bytes_eq, subst, Some, None, Option, slice_get, option_map, unwrap_or, refl, sym, ap, ⊎_elim, ◌∙◌, arith}
 use Rattle.std.proofs.lemmas.Bool.{cases_Bool, cases_lt, eq-eqb, ne_eqb}
 use Rattle.std.specs.Cmp.Lexicographic.{bytes_decides}
 use Rattle.std.proofs.lemmas.Option.{slice_get_past}
@@ -73,6 +73,22 @@ values-keyed (time ∷ times) = ap (λ ts. time ∷ ts) (values-keyed times)
 
 pub with_ids-entries : (ids : List Text) (times : List StopTime) (m : BySequence) → keyed times ≡ entries m → with_ids ids times ≡ with_ids ids (map (λ entry. entry.1) (entries m))
 with_ids-entries ids times m e = ap (with_ids ids) (sym (values-keyed times) ∙ ap (map (λ entry. entry.1)) e)
+
+-- ---- stops that are gone through from a place on
+-- none up to a place passes, nor does the one there
+pub none_more : (test : Stop → Bool) (stops : List Stop) (from n : ℕ) → ((place : ℕ) → from ≤ place → place < n → passes test stops place ≡ false)
+    → passes test stops n ≡ false → (place : ℕ) → from ≤ place → place < n + 1 → passes test stops place ≡ false
+none_more test stops from n h k place low high =
+    ⊎_elim
+    (λ before. h place low before)
+    (λ past. let is : place ≡ n = omega (arith, past, high) in subst (λ p. passes test stops p ≡ false) (sym is) k)
+    (cases_lt place n)
+
+-- none up to the end passes
+pub none_passes : (test : Stop → Bool) (stops : List Stop) (from n : ℕ) → ((place : ℕ) → from ≤ place → place < n → passes test stops place ≡ false)
+    → length stops ≤ n → IsFirstFrom test stops from None
+none_passes test stops from n h end = λ place low.
+    ⊎_elim (λ before. h place low before) (λ past. passes-past test stops place (omega (arith, past, end))) (cases_lt place n)
 
 -- ---- stops by their id
 passes-at : (test : Stop → Bool) (o : Option Stop) → unwrap_or (option_map test o) false ≡ true → (s : Stop) × (o ≡ Some s) × (test s ≡ true)

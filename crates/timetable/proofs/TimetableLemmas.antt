@@ -1,23 +1,24 @@
 -- Timetables that were read.
-use Rattle.std.proofs.Common.{◌≡◌, ◌<◌, inl, inr, ℕ, List, [], ◌∷◌, Bor, Option, Some, None, Ok, IfSome, length, option_map, unwrap_or, refl, sym, ap, ◌∙◌}
-use Rattle.std.specs.FinMap.{empty, entries, get}
+use Rattle.std.proofs.Common.{◌≡◌, ◌<◌, inl, inr, ℕ, List, [], ◌∷◌, Bor, Option, Some, None, Ok, IfSome, length, option_map, unwrap_or, sym, ap, ◌∙◌, refl, subst}
+use Rattle.std.specs.FinMap.{empty, entries, get, get-empty}
 use Rattle.std.specs.Option.{option_and_then, option_copied}
 use Rattle.rt_outside.specs.Store.{Contents}
 use Rattle.timetable.specs.Cells.{then_with}
 use Rattle.timetable.specs.Folders.{IsRead}
 use Rattle.timetable.specs.Laws.{FollowsRows}
-use Rattle.timetable.specs.Maps.{Text}
-use Rattle.timetable.specs.Lookups.{IsServiceOf, trip_row}
+use Rattle.timetable.specs.Maps.{ByText, Text}
+use Rattle.timetable.specs.Lookups.{IsServiceOf, tables_from_held, tables_held, tables_in, trip_row, trips_in}
 use Rattle.timetable.specs.Numbers.{HasNumber}
 use Rattle.timetable.specs.Records.{Record, records_of}
 use Rattle.timetable.specs.Stops.{HaveStops, HoldsVisits, StopTable, visit_key, visits}
 use Rattle.timetable.specs.Tables.{table_in, table_of_records, without_mark}
 use Rattle.timetable.specs.Times.{BySequence, keyed}
-use Rattle.timetable.specs.Timetables.{KnowsTwice, Loaded, loaded_from, tables_from, tables_of, trip_times}
+use Rattle.timetable.specs.Timetables.{Loaded, Tables, loaded_from, no_tables, tables_from, tables_of, trip_times}
 use Rattle.timetable.specs.declared.trip.Trip.{Trip}
 use Rattle.timetable.specs.declared.visit.Visit.{Visit}
 use Rattle.timetable.specs.declared.row.Row.{Row}
 use Rattle.timetable.specs.declared.stop_time.StopTime.{StopTime}
+use Rattle.timetable.specs.declared.timetable.HeldTables.{HeldTables}
 use Rattle.timetable.specs.declared.timetable.ServiceNo.{ServiceNo}
 use Rattle.timetable.specs.declared.timetable.Timetable.{Timetable}
 use Rattle.timetable.proofs.LawLemmas.{follows_rows}
@@ -40,27 +41,42 @@ pub stops_of_read : (table : StopTable) → IsRead visits table → HaveStops ta
 stops_of_read table (inl e) = cc e
 stops_of_read table (inr read) = let held = rows_of_read read.0 table read.1 in let says = held.1 in says.stops
 
-pub no_stops : HaveStops visits.empty
-no_stops = let empty = keeps_visits.empty in empty.stops
-
-pub knows_none : (table : StopTable) → KnowsTwice [] table []
-knows_none table = record { size = refl; known = λ n id number. cc number }
-
 pub tables_of_loaded : (folder : List ℕ) (loaded : Loaded) (told : Option Contents) → IfSome told (λ contents. loaded_from folder contents ≡ Ok loaded)
     → IfSome told (λ contents. tables_of folder contents ≡ Ok (tables_from loaded))
 tables_of_loaded folder loaded None h = tt
 tables_of_loaded folder loaded (Some contents) h = ap (λ r. then_with r (λ l. Ok (tables_from l))) h
+
+-- a timetable that was not given has no row under any id
+pub no_row : {G : Type 0} (timetable : Timetable) (table : Tables → ByText G) (id : Text) → timetable.tables ≡ None → table no_tables ≡ empty → None ≡ get (table (tables_in timetable)) id
+no_row timetable table id none is = sym (ap (λ tables. get (table (tables_in (record { tables = tables }))) id) none ∙ ap (λ m. get m id) is ∙ get-empty _ id)
+
+-- the tables of one that was given are those that it holds
+pub tables_of_held : (timetable : Timetable) (held : HeldTables) → tables_held timetable ≡ Some held → tables_from_held held ≡ tables_in timetable
+tables_of_held timetable held is = sym (ap (λ o. unwrap_or (option_map tables_from_held o) no_tables) is)
+
+-- and so are its trips
+pub trips_of_held : (timetable : Timetable) (held : HeldTables) → tables_held timetable ≡ Some held → held.trips ≡ trips_in timetable
+trips_of_held timetable held is = sym (ap (λ o. unwrap_or (option_map (λ h. h.trips) o) []) is)
 
 -- a stop time that is held has a stop
 pub has_stop : (table : StopTable) → HaveStops table → (id : Text) (trip : BySequence) (sequence : ℕ) (time : StopTime) → Some trip ≡ get table.times id → get trip sequence ≡ Some time
     → time.stop < length table.stops
 has_stop table have id trip sequence time held at = have id sequence time (ap (option_and_then (λ t. get t sequence)) (sym held) ∙ at)
 
--- and so has one that a look-up answers
-pub found_stop : (table : StopTable) → HaveStops table → (id : Text) (trip : BySequence) (sequence : ℕ) (found : Option (Bor StopTime)) → Some trip ≡ get table.times id
-    → option_copied found ≡ get trip sequence → IfSome found (λ time. time.now.stop < length table.stops)
-found_stop table have id trip sequence None held at = tt
-found_stop table have id trip sequence (Some time) held at = has_stop table have id trip sequence time.now held (sym at)
+-- and so has each one of the stop times that a look-up answers
+pub found_stops : (table : StopTable) → HaveStops table → (id : Text) (found : Option (Bor BySequence)) → option_copied found ≡ get table.times id
+    → IfSome found (λ times. (sequence : ℕ) → IfSome (get times.now sequence) (λ time. time.stop < length table.stops))
+found_stops table have id None held = tt
+found_stops table have id (Some times) held = λ sequence. each sequence (get times.now sequence) refl
+  where
+    each : (sequence : ℕ) (time : Option StopTime) → get times.now sequence ≡ time → IfSome time (λ t. t.stop < length table.stops)
+    each sequence None at = tt
+    each sequence (Some time) at = has_stop table have id times.now sequence time held at
+
+-- a stop time that is lent has what it has
+pub lent : (P : StopTime → Type 0) (time : Option (Bor StopTime)) (held : Option StopTime) → option_copied time ≡ held → IfSome held P → IfSome time (λ t. P t.now)
+lent P None held is h = tt
+lent P (Some time) held is h = subst (λ o. IfSome o P) (sym is) h
 
 -- a trip that the file names nowhere has no stop times
 pub no_times : (table : StopTable) (id : Text) → None ≡ get table.times id → keyed [] ≡ entries (trip_times table id)
@@ -71,7 +87,7 @@ pub one_id : {G : Type 0} (entries : List (Text × G)) (n : ℕ) (p q : Text) �
 one_id entries n p q hp hq = ap (λ o. unwrap_or o []) (sym hp ∙ hq)
 
 -- the service of a trip's row
-pub service_named : (timetable : Timetable) (service : ServiceNo) (id : Text) (row : Option Trip) → HasNumber timetable.trips service.trip id → trip_row timetable id ≡ row
+pub service_named : (timetable : Timetable) (service : ServiceNo) (id : Text) (row : Option Trip) → HasNumber (trips_in timetable) service.trip id → trip_row timetable id ≡ row
     → IfSome row (λ r. IsServiceOf timetable service r.service)
 service_named timetable service id None number is = tt
 service_named timetable service id (Some r) number is = record { trip = id; number = number; row = ap (option_map (λ x. x.service)) is }

@@ -64,3 +64,4 @@ pub use records::Records;
 pub use service_row::ServiceRow;
 pub use stop_time::StopTime;
 pub use timetable::{ServiceNo, Timetable, TripNo};
+pub use trip_times::TripTimes;

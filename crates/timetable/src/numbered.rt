@@ -1,12 +1,11 @@
 //! Ids by number, with what stands under them.
 
-ghost use Rattle.std.specs.Prelude.{◌≡◌, ◌<◌, [], None, Some, IfNone, IfSome, is_some, length, option_map, slice_get};
+ghost use Rattle.std.specs.Prelude.{◌≡◌, ◌<◌, None, Some, IfNone, IfSome, is_some, length, option_map, slice_get};
 ghost use Rattle.std.specs.FinMap as map;
 ghost use Rattle.timetable.specs.Numbers.{HasNumber, map_of};
 ghost use Rattle.timetable.specs.Maps.{Text, by_text};
 
 use indexmap::IndexMap;
-use std::alloc::Global;
 use std::marker::Model;
 
 /// Ids numbered from 0, each with one group. Contracts see the list of ids and groups.
@@ -33,15 +32,6 @@ impl<G: Drop> Numbered<G> {
         ensures { result ≡ by_text groups.entries }
     {
         Numbered { groups }
-    }
-
-    /// No ids.
-    pub fn empty(alloc: Global) -> Numbered<G>
-        ensures { result ≡ [] }
-    {
-        Numbered {
-            groups: IndexMap::new(alloc),
-        }
     }
 
     /// How many ids there are.

@@ -2,12 +2,10 @@
 
 ghost use Rattle.std.specs.Prelude.{◌≡◌, ◌<◌, Some, length, option_copied, slice_get};
 ghost use Rattle.std.specs.FinMap as map;
-ghost use Rattle.timetable.specs.Stops.{visits};
 
 use crate::grouped::Grouped;
 use crate::stop_ids::StopIds;
 use crate::trip_times::TripTimes;
-use std::alloc::Global;
 use std::marker::Model;
 
 /// Stop times by trip, whose stops are numbers of shared ids.
@@ -32,13 +30,6 @@ impl StopTimes {
         ensures { result ≡ (record { stops = stops; times = times }) }
     {
         StopTimes { stops, times }
-    }
-
-    /// No stop times.
-    pub fn empty(alloc: Global) -> StopTimes
-        ensures { result ≡ visits.empty }
-    {
-        StopTimes::new(StopIds::new(alloc), Grouped::new(alloc))
     }
 
     /// The stop times of a trip.

@@ -1,6 +1,6 @@
 //! A timetable in memory.
 
-ghost use Rattle.std.specs.Prelude.{◌≡◌, ◌≢◌, ◌≤◌, Ok, Err, IfOk, IfErr, IfSome, IfNone, None, Some, true, false, All, is_some, length, option_copied, option_map, option_and_then, slice_get, unwrap_or, []};
+ghost use Rattle.std.specs.Prelude.{ℕ, ◌≡◌, ◌≢◌, ◌≤◌, Ok, Err, IfOk, IfErr, IfSome, IfNone, None, Some, true, false, All, is_some, length, option_copied, option_map, option_and_then, slice_get, unwrap_or, []};
 ghost use Rattle.std.specs.FinMap as map;
 ghost use Rattle.rt_outside.specs.Causes.{Rose};
 ghost use Rattle.rt_outside.specs.Store.{contents_told};
@@ -26,6 +26,7 @@ use crate::stop::Stop;
 use crate::stop_time::StopTime;
 use crate::stop_times::StopTimes;
 use crate::trip::Trip;
+use crate::trip_times::TripTimes;
 use crate::twice::trips_that_return;
 use rt_day::Day;
 use rt_outside::Files;
@@ -53,7 +54,15 @@ pub struct ServiceNo {
 /// Look-ups take no memory. Ids are compared byte by byte.
 #[derive(Drop)]
 pub struct Timetable {
-    present: bool,
+    /// None where it was not given.
+    tables: Option<Box<HeldTables>>,
+}
+
+/// The tables of the eight files.
+///
+/// A timetable holds them in a box, so that a function that drops one is proved without the drop of each table.
+#[derive(Drop)]
+struct HeldTables {
     agencies: Grouped<Only<Agency>>,
     stops: Grouped<Only<Stop>>,
     routes: Grouped<Only<Route>>,
@@ -89,29 +98,15 @@ pub(crate) type Loaded = (
 );
 
 impl Timetable {
-    ghost use Rattle.timetable.specs.Lookups.{IsService, IsServiceOf, IsStop, IsTrip, IsTripOf, is_present, tables_in, trip_row};
+    ghost use Rattle.timetable.specs.Lookups.{IsService, IsServiceOf, IsStop, IsTrip, IsTripOf, is_present, tables_held, tables_in, trip_row};
     ghost use Rattle.timetable.specs.Timetables.{no_tables, stop_times_in, tables_from, tables_of, trip_times, visits_twice};
 
     /// The timetable that was not given: every table is empty.
-    pub fn absent(alloc: Global) -> Timetable
+    pub fn absent(_alloc: Global) -> Timetable
         ensures present { is_present result ≡ false }
         ensures empty { tables_in result ≡ no_tables }
     {
-        let trips = Numbered::empty(alloc);
-        let stop_times = StopTimes::empty(alloc);
-        let twice = Vec::new(alloc);
-        Timetable {
-            present: false,
-            agencies: Grouped::new(alloc),
-            stops: Grouped::new(alloc),
-            routes: Grouped::new(alloc),
-            trips,
-            stop_times,
-            services: Grouped::new(alloc),
-            exceptions: Grouped::new(alloc),
-            frequencies: Grouped::new(alloc),
-            twice,
-        }
+        Timetable { tables: None }
     }
 
     /// Reads the eight files of a folder, or answers their first fault.
@@ -148,8 +143,7 @@ impl Timetable {
         let (services, (exceptions, frequencies)) = rest;
         let trips = trips.into_numbered();
         let twice = trips_that_return(alloc, &trips, &stop_times)?;
-        Ok(Timetable {
-            present: true,
+        let held = HeldTables {
             agencies,
             stops,
             routes,
@@ -159,6 +153,9 @@ impl Timetable {
             exceptions,
             frequencies,
             twice,
+        };
+        Ok(Timetable {
+            tables: Some(Box::new(alloc, held)?),
         })
     }
 
@@ -166,7 +163,7 @@ impl Timetable {
     pub fn is_present(&self) -> bool
         ensures { result ≡ is_present self.now }
     {
-        self.present
+        self.tables.is_some()
     }
 
     /// The number of a trip of trips.txt.
@@ -176,7 +173,11 @@ impl Timetable {
         ensures none { IfNone result (map.get (tables_in self.now).trips id.now ≡ None) }
         ensures known { is_some result ≡ is_some (map.get (tables_in self.now).trips id.now) }
     {
-        match self.trips.number(id) {
+        let held = match &self.tables {
+            Some(held) => held,
+            None => return None,
+        };
+        match held.trips.number(id) {
             Some(number) => Some(TripNo { number }),
             None => None,
         }
@@ -186,21 +187,31 @@ impl Timetable {
     pub fn has_route(&self, id: &str) -> bool
         ensures { result ≡ is_some (map.get (tables_in self.now).routes id.now) }
     {
-        self.routes.get(id).is_some()
+        match &self.tables {
+            Some(held) => held.routes.get(id).is_some(),
+            None => false,
+        }
     }
 
     /// Whether agency.txt has the id.
     pub fn has_agency(&self, id: &str) -> bool
         ensures { result ≡ is_some (map.get (tables_in self.now).agencies id.now) }
     {
-        self.agencies.get(id).is_some()
+        match &self.tables {
+            Some(held) => held.agencies.get(id).is_some(),
+            None => false,
+        }
     }
 
     /// The location type of a stop of stops.txt, 0 where it is left blank.
     pub fn stop_kind(&self, id: &str) -> Option<u32>
         ensures { result ≡ option_map (λ only. only.item.kind) (map.get (tables_in self.now).stops id.now) }
     {
-        match self.stops.get(id) {
+        let held = match &self.tables {
+            Some(held) => held,
+            None => return None,
+        };
+        match held.stops.get(id) {
             Some(only) => Some(only.item.kind),
             None => None,
         }
@@ -212,7 +223,7 @@ impl Timetable {
         ensures { (id : Text) → IsTripOf self.now trip id
             → option_map (λ row. row.route) (trip_row self.now id) ≡ Some result.now }
     {
-        self.trips.get(trip.number).item.route.as_str()
+        self.held().trips.get(trip.number).item.route.as_str()
     }
 
     /// The direction of a trip, None where it is left blank.
@@ -221,7 +232,7 @@ impl Timetable {
         ensures { (id : Text) → IsTripOf self.now trip id
             → option_map (λ row. row.direction) (trip_row self.now id) ≡ Some result }
     {
-        self.trips.get(trip.number).item.direction
+        self.held().trips.get(trip.number).item.direction
     }
 
     /// The service of a trip.
@@ -241,10 +252,22 @@ impl Timetable {
             → keyed result.now ≡ map.entries (trip_times (tables_in self.now).stop_times id) }
         ensures stops { All (λ time. IsStop self.now time.stop) result.now }
     {
-        match self.stop_times.get(self.trips.id(trip.number)) {
+        let held = self.held();
+        match held.stop_times.get(held.trips.id(trip.number)) {
             Some(times) => times.as_slice(),
             None => &[],
         }
+    }
+
+    /// The stop times of a trip by sequence, None where it has none. One look-up serves all sequences.
+    pub fn times(&self, trip: TripNo) -> Option<&TripTimes>
+        requires { IsTrip self.now trip }
+        ensures times { (id : Text) → IsTripOf self.now trip id
+            → option_copied result ≡ map.get (tables_in self.now).stop_times.times id }
+        ensures stops { IfSome result (λ times. (sequence : ℕ) → IfSome (map.get times.now sequence) (λ time. IsStop self.now time.stop)) }
+    {
+        let held = self.held();
+        held.stop_times.get(held.trips.id(trip.number))
     }
 
     /// The stop time of a trip at a sequence.
@@ -254,7 +277,7 @@ impl Timetable {
             → option_copied result ≡ stop_time_at (tables_in self.now).stop_times.times id sequence }
         ensures stop { IfSome result (λ time. IsStop self.now time.now.stop) }
     {
-        match self.stop_times.get(self.trips.id(trip.number)) {
+        match self.times(trip) {
             Some(times) => times.get(sequence),
             None => None,
         }
@@ -265,7 +288,7 @@ impl Timetable {
         requires { IsStop self.now stop }
         ensures { slice_get (tables_in self.now).stop_times.stops stop ≡ Some result.now }
     {
-        self.stop_times.stop_text(stop)
+        self.held().stop_times.stop_text(stop)
     }
 
     /// Whether two stop times of a trip have one stop.
@@ -274,7 +297,7 @@ impl Timetable {
         ensures { (id : Text) → IsTripOf self.now trip id
             → result ≡ visits_twice (trip_times (tables_in self.now).stop_times id) }
     {
-        self.twice[trip.number]
+        self.held().twice[trip.number]
     }
 
     /// The frequencies of a trip, in the order of the file.
@@ -283,7 +306,8 @@ impl Timetable {
         ensures { (id : Text) → IsTripOf self.now trip id
             → result.now ≡ unwrap_or (map.get (tables_in self.now).frequencies id) [] }
     {
-        match self.frequencies.get(self.trips.id(trip.number)) {
+        let held = self.held();
+        match held.frequencies.get(held.trips.id(trip.number)) {
             Some(frequencies) => frequencies.as_slice(),
             None => &[],
         }
@@ -295,7 +319,7 @@ impl Timetable {
         ensures { (id : Text) → IsServiceOf self.now service id
             → option_copied result ≡ option_map (λ only. only.item) (map.get (tables_in self.now).services id) }
     {
-        match self.services.get(self.service_id(service)) {
+        match self.held().services.get(self.service_id(service)) {
             Some(only) => Some(&only.item),
             None => None,
         }
@@ -307,7 +331,7 @@ impl Timetable {
         ensures { (id : Text) → IsServiceOf self.now service id
             → result ≡ option_and_then (λ days. map.get days day.number) (map.get (tables_in self.now).exceptions id) }
     {
-        match self.exceptions.get(self.service_id(service)) {
+        match self.held().exceptions.get(self.service_id(service)) {
             Some(exceptions) => exceptions.get(day),
             None => None,
         }
@@ -317,6 +341,17 @@ impl Timetable {
         requires { IsService self.now service }
         ensures { (id : Text) → IsServiceOf self.now service id → result.now ≡ id }
     {
-        self.trips.get(service.trip).item.service.as_str()
+        self.held().trips.get(service.trip).item.service.as_str()
+    }
+
+    /// The tables, which each timetable with a trip, a service or a stop holds.
+    fn held(&self) -> &HeldTables
+        requires { is_present self.now ≡ true }
+        ensures { tables_held self.now ≡ Some result.now }
+    {
+        match &self.tables {
+            Some(held) => held,
+            None => unreachable!(),
+        }
     }
 }

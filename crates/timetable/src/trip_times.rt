@@ -10,7 +10,7 @@ use std::marker::Model;
 /// The stop times of a trip, by rising sequence and found by binary search. Contracts see a finite map
 /// from their sequences.
 #[derive(Drop)]
-pub(crate) struct TripTimes {
+pub struct TripTimes {
     times: Vec<StopTime>,
 }
 
@@ -30,7 +30,7 @@ impl Model for TripTimes {
 
 impl TripTimes {
     /// The trip of these stop times, which stay where they are.
-    pub fn new(times: Vec<StopTime>) -> TripTimes
+    pub(crate) fn new(times: Vec<StopTime>) -> TripTimes
         requires { AreRising times.items }
         ensures { result ≡ map.from_sorted (keyed times.items) }
     {
