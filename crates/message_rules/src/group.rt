@@ -50,7 +50,7 @@ pub struct MessageGroup {
 
 impl MessageGroup {
     pub fn new() -> MessageGroup {
-        let errors = Listed::new(ERRORS);
+        let errors = Listed::within_messages(ERRORS);
         let others = Listed::new(OTHERS);
         MessageGroup {
             inner: Both::new(errors, others),

@@ -1,7 +1,6 @@
 -- A rule that wants a field missing breaks nowhere where the field is given.
-use Rattle.std.specs.Prelude.{◌≡◌, ℕ, zero, suc, nat_le, Bool, true, false, not, ◌&&◌, cond, List, [], ◌∷◌, ◌++◌, Option, Some, None, option_map, slice_get, refl}
-use Rattle.std.specs.List.{Contains, list_all}
-use Rattle.std.proofs.Common.{sym, ap, ◌∙◌, subst}
+use Rattle.std.specs.Prelude.{◌≡◌, ℕ, zero, suc, Bool, true, false, not, ◌&&◌, List, [], ◌∷◌, ◌++◌, Option, Some, None, option_map, slice_get, refl}
+use Rattle.std.proofs.Common.{sym, ap, ◌∙◌}
 use Rattle.feed_values.specs.declared.slot.Slot.{Slot}
 use Rattle.feed_values.specs.declared.cell_value.CellValue.{CellValue}
 use Rattle.rule_core.specs.declared.ask.Ask.{Ask}
@@ -14,17 +13,17 @@ use Rattle.rule_core.specs.declared.row.Cite.TheVariants as cite
 use Rattle.rule_core.specs.declared.row.Atom.{Atom}
 use Rattle.rule_core.specs.declared.row.Atom.TheVariants.{Missing}
 use Rattle.rule_core.specs.declared.rule.RuleId.{RuleId}
-use Rattle.rule_core.specs.Asked.{ask_at, value_at, text_at, with_both}
+use Rattle.rule_core.specs.Asked.{ask_at, value_at}
 use Rattle.rule_core.specs.Passed.{is_given, holds, passes}
-use Rattle.rule_core.specs.Cited.{and_then, answered, fact_at, cited, values_of, do_break, value_then}
+use Rattle.rule_core.specs.Cited.{fact_at, cited, values_of, do_break, value_then}
 use Rattle.rule_core.specs.CitedLaws.{both_same}
 use Rattle.rule_core.specs.Broken.{IsFormed}
 use Rattle.rule_core.specs.Laws.{AllHold}
-use Rattle.rule_core.specs.Table.{cites_of, test_of, first_of}
-use Rattle.rule_core.specs.Judged.{found_at, found_below}
+use Rattle.rule_core.specs.Table.{cites_of, test_of}
+use Rattle.rule_core.specs.Judged.{found_below}
 use Rattle.rule_core.specs.Filled.{gives, gives_below}
 use Rattle.rule_core.specs.GroupLaws.{and_true}
-use Rattle.rule_core.proofs.Formed.{and_then_some, fact_asks, cited_all, unbroken}
+use Rattle.rule_core.proofs.Formed.{fact_asks, cited_all, unbroken}
 use Rattle.rule_core.proofs.Shown.{fact_holds, cited_hold}
 
 -- ---- an entry that asks something where nothing was cited asks the same whatever was cited

@@ -1,22 +1,19 @@
 -- Laws of citing: two answers that agree along a row's entries cite the same facts there, and entries of which one is never
 -- answered cite none.
-use Rattle.std.specs.Prelude.{◌≡◌, ℕ, nat_le, zero, suc, Bool, true, false, List, [], ◌∷◌, ◌++◌, Option, Some, None, cond, refl}
-use Rattle.std.proofs.Common.{sym, ap, ◌∙◌}
-use Rattle.feed_values.specs.declared.slot.Slot.{Slot}
+use Rattle.std.specs.Prelude.{◌≡◌, nat_le, Bool, true, false, List, [], ◌∷◌, ◌++◌, Option, Some, None, cond, refl}
+use Rattle.std.proofs.Common.{ap, ◌∙◌}
 use Rattle.feed_values.specs.declared.cell_value.CellValue.{CellValue}
 use Rattle.rule_core.specs.declared.rule.RuleId.{RuleId}
 use Rattle.rule_core.specs.declared.ask.Ask.{Ask}
 use Rattle.rule_core.specs.declared.row.Cite.{Cite}
 use Rattle.rule_core.specs.declared.fact.Fact.{Fact}
-use Rattle.rule_core.specs.declared.key.EntityKey.{EntityKey}
 use Rattle.rule_core.specs.declared.place.Place.{Place}
-use Rattle.rule_core.specs.declared.place.Place.TheVariants as place
 use Rattle.rule_core.specs.Asked.{in_range, index_of}
 use Rattle.rule_core.specs.Cited.{and_then, answered, fact_at, cited, values_of}
 use Rattle.rule_core.specs.Rows.{cites_at}
 use Rattle.rule_core.specs.Table.{first_of}
 use Rattle.rule_core.specs.Found.{Found}
-use Rattle.rule_core.specs.Judged.{found_of, found_at, found_below}
+use Rattle.rule_core.specs.Judged.{found_of, found_at}
 
 pub both_same : {A : Type 0} {a b c d : List A} → a ≡ b → c ≡ d → (a ++ c) ≡ (b ++ d)
 both_same h k = cc

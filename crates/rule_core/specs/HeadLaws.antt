@@ -1,5 +1,5 @@
 -- Laws of the findings of rules on a header, one rule after the other.
-use Rattle.std.specs.Prelude.{◌≡◌, ℕ, ◌+◌, ◌≤◌, nat_le, Bool, true, List, [], ◌∷◌, ◌++◌, Option, refl}
+use Rattle.std.specs.Prelude.{◌≡◌, ℕ, ◌+◌, ◌≤◌, nat_le, true, List, [], ◌∷◌, Option, refl}
 use Rattle.std.proofs.Common.{ap, ◌∙◌, sym, subst, arith}
 use borrow.Author.Tests.{leb-true}
 use Rattle.feed_values.specs.declared.slot.Slot.{Slot}

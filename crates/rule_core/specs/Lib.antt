@@ -8,6 +8,10 @@ pub mod Cited
 pub mod Broken
 pub mod Found
 pub mod Filled
+pub mod Keeping
+pub mod KnownTrips
+pub mod Sound
+pub mod Clear
 pub mod Judged
 pub mod Order
 pub mod Pairs

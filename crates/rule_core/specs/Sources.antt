@@ -14,7 +14,7 @@ use Rattle.rule_core.specs.declared.row.Cite.{Cite}
 use Rattle.rule_core.specs.declared.row.Cite.TheVariants as cite
 use Rattle.rule_core.specs.declared.key.EntityKey.{EntityKey}
 use Rattle.rule_core.specs.declared.place.Place.TheVariants as place
-use Rattle.rule_core.specs.Asked.{ask_at, with_both, event_ask, id_ask, other_kind, slot_of, feed_of, text_at, sequence_at}
+use Rattle.rule_core.specs.Asked.{ask_at, with_both, event_ask, id_ask, other_kind, text_at, sequence_at}
 use Rattle.rule_core.specs.Table.{cites_of}
 
 pub data Source : Type 0 where

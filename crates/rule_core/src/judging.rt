@@ -1,5 +1,5 @@
 //! Judging a rule at an entity and on a header.
-ghost use Rattle.std.specs.Prelude.{◌≡◌, true, false, ◌+◌, ◌≤◌, ◌++◌, length, OnOk};
+ghost use Rattle.std.specs.Prelude.{◌≡◌, false, ◌+◌, ◌≤◌, ◌++◌, length, OnOk};
 ghost use Rattle.std.specs.Option.{option_map};
 ghost use Rattle.std.specs.List.{Contains};
 ghost use Rattle.feed_values.specs.Cells.{has_item, way};
@@ -8,10 +8,12 @@ ghost use Rattle.rule_core.specs.Asked.{place_value, slot_of, index_of};
 ghost use Rattle.rule_core.specs.declared.place.Place.TheVariants as place;
 ghost use Rattle.rule_core.specs.Table.{slots_of, head_slots_of};
 ghost use Rattle.rule_core.specs.Rows.{slots_at};
-ghost use Rattle.rule_core.specs.Judged.{found_at, found_below, found_by, found_all, found_on, head_found_by, head_found_all, places_at, updates_in, periods_in, selectors_in};
+ghost use Rattle.rule_core.specs.Clear.{AreClear};
+ghost use Rattle.rule_core.specs.Judged.{found_at, found_below, found_by, found_all, head_found_by, head_found_all, places_at, updates_in, periods_in, selectors_in};
 
 use crate::answers::Answers;
 use crate::citing::{cite, is_broken};
+use crate::clear::Clear;
 use crate::filled::breaks_nowhere;
 use crate::finding::Finding;
 use crate::finding_list::FindingList;
@@ -24,7 +26,7 @@ use rt_outside::Steps;
 use std::alloc::{AllocError, Global};
 use std::sync::ledger::Ledger;
 
-fn updates(held: &Option<TripUpdate>) -> usize
+pub(crate) fn updates(held: &Option<TripUpdate>) -> usize
     ensures { result ≡ updates_in (option_map trip_update_value held.now) }
 {
     match held {
@@ -108,10 +110,11 @@ fn judge_place<A: Answers>(
     out.push(Finding::new(rule, place, facts))
 }
 
-/// Judges a rule at one slot of an entity.
+/// Judges a rule at one slot of an entity, unless it is clear that it breaks nowhere there.
 fn judge_slot<A: Answers>(
     alloc: Global,
     answers: &A,
+    clear: Clear,
     rule: RuleId,
     key: &EntityKey,
     entity: &Entity,
@@ -119,8 +122,12 @@ fn judge_slot<A: Answers>(
     out: &mut FindingList,
 ) -> Result<(), AllocError>
     requires listed { Contains (slots_of rule) slot }
+    requires clear { AreClear (A.answers answers.now) key.now (entity_value entity.now) clear }
     ensures { OnOk result (out.new ≡ out.old ++ found_below rule (A.answers answers.now) key.now slot (places_at (entity_value entity.now) slot)) }
 {
+    if clear.has(rule, slot) {
+        return Ok(());
+    }
     let places = places(entity, slot);
     if places > 4294967295 {
         return Err(AllocError);
@@ -144,18 +151,20 @@ fn judge_slot<A: Answers>(
 /// Appends the findings of a rule at an entity, by slot and index.
 ///
 /// Where a list of the entity has 2^32 items or more, which no path can name, it answers want of memory.
-pub fn judge_rule<A: Answers>(
+fn judge_rule<A: Answers>(
     alloc: Global,
     answers: &A,
+    clear: Clear,
     rule: RuleId,
     key: &EntityKey,
     entity: &Entity,
     out: &mut FindingList,
 ) -> Result<(), AllocError>
+    requires { AreClear (A.answers answers.now) key.now (entity_value entity.now) clear }
     ensures { OnOk result (out.new ≡ out.old ++ found_by rule (A.answers answers.now) key.now (entity_value entity.now)) }
 {
     for slot in slots(rule) {
-        judge_slot(alloc, answers, rule, key, entity, *slot, out)?;
+        judge_slot(alloc, answers, clear, rule, key, entity, *slot, out)?;
     }
     Ok(())
 }
@@ -192,7 +201,8 @@ pub fn judge_head<A: Answers>(
 }
 
 /// Appends the findings of some rules at an entity, one rule after the other and those of one rule by slot and index, and
-/// ticks once for each rule, before it is judged.
+/// ticks once for each rule, before it is judged. Where a list of the entity has 2^32 items or more, which no path can name,
+/// it answers want of memory.
 pub fn judge_rules<A: Answers, L: Ledger>(
     alloc: Global,
     answers: &A,
@@ -206,9 +216,37 @@ pub fn judge_rules<A: Answers, L: Ledger>(
     ensures ticked { OnOk result (steps.new ≡ steps.old + length rules.now) }
     ensures most { steps.new ≤ steps.old + length rules.now }
 {
+    judge_unclear(
+        alloc,
+        answers,
+        Clear::Nowhere,
+        rules,
+        key,
+        entity,
+        out,
+        steps,
+    )
+}
+
+/// The same without a look at what is clear.
+pub(crate) fn judge_unclear<A: Answers, L: Ledger>(
+    alloc: Global,
+    answers: &A,
+    clear: Clear,
+    rules: &[RuleId],
+    key: &EntityKey,
+    entity: &Entity,
+    out: &mut FindingList,
+    steps: &mut Steps<L>,
+) -> Result<(), AllocError>
+    requires { AreClear (A.answers answers.now) key.now (entity_value entity.now) clear }
+    ensures found { OnOk result (out.new ≡ out.old ++ found_all rules.now (A.answers answers.now) key.now (entity_value entity.now)) }
+    ensures ticked { OnOk result (steps.new ≡ steps.old + length rules.now) }
+    ensures most { steps.new ≤ steps.old + length rules.now }
+{
     for rule in rules {
         steps.tick();
-        judge_rule(alloc, answers, *rule, key, entity, out)?;
+        judge_rule(alloc, answers, clear, *rule, key, entity, out)?;
     }
     Ok(())
 }

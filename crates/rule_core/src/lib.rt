@@ -2,10 +2,11 @@
 //! cites there, and when they break it.
 //!
 //! `specs/Table.antt` is the table, and `table` the same as code; the contracts of `table` say that they are equal. A
-//! rule is a row and has no code of its own. `judge_rule` and `judge_head` judge a row at an entity and on a header, with
-//! whatever `Answers` its asks. A place where the rule doesn't break takes no memory: cells are read borrowed, and a
+//! rule is a row and has no code of its own. `judge_rules` and `judge_heads` judge rows at an entity and on a header, with
+//! whatever `Answers` their asks. A place where the rule doesn't break takes no memory: cells are read borrowed, and a
 //! condition is tested as soon as its last cell is read. Where a rule wants a field missing that is given at each place of a
-//! list, one look along the list settles them all.
+//! list, one look along the list settles them all. Stop time updates are looked at before any rule is judged: where all are
+//! sound, or keep to the timetable (`clear`, `sound`, `keeping`), fifteen rules needn't be asked at each of them.
 //!
 //! A `Finding` is a rule, a place and the facts that it cites there. They break the rule, in every finding that there
 //! is, so a finding can be shown by itself.
@@ -18,14 +19,17 @@ mod both;
 mod bound_rule;
 mod cells;
 mod citing;
+mod clear;
 mod fact;
 mod filled;
 mod finding;
 mod finding_list;
 mod head_rule;
 mod judging;
+mod keeping;
 mod key;
 mod kind;
+mod known_trip;
 mod laws;
 mod listed;
 mod local_rule;
@@ -37,6 +41,8 @@ mod row;
 mod rule;
 mod rules;
 mod schedule;
+mod sound;
+mod stop_cells;
 mod table;
 
 pub use answers::Answers;
@@ -50,7 +56,7 @@ pub use fact::{Fact, FactRef};
 pub use finding::Finding;
 pub use finding_list::FindingList;
 pub use head_rule::HeadRule;
-pub use judging::{judge_head, judge_heads, judge_rule, judge_rules};
+pub use judging::{judge_head, judge_heads, judge_rules};
 pub use key::EntityKey;
 pub use kind::Kind;
 pub use laws::{evidence_is_among, evidence_is_found, evidence_shows, findings_are_evidence};

@@ -5,8 +5,9 @@ ghost use Rattle.rule_core.specs.GroupLaws.{all_own, all_once};
 ghost use Rattle.rule_core.specs.Judged.{found_all};
 ghost use Rattle.rule_core.specs.Answered.{local_answer};
 
+use crate::clear::Clear;
 use crate::finding_list::FindingList;
-use crate::judging::judge_rules;
+use crate::judging::judge_unclear;
 use crate::key::EntityKey;
 use crate::local_rule::{LocalAnswers, LocalRule};
 use crate::rule::RuleId;
@@ -21,6 +22,7 @@ use timetable::Timetable;
 #[derive(Drop)]
 pub struct Listed {
     rules: &'static [RuleId],
+    looks_for: Clear,
     ghost apart: { are_apart rules.now ≡ true },
 }
 
@@ -29,7 +31,34 @@ impl Listed {
         requires { are_apart rules.now ≡ true }
         ensures { result.rules.now ≡ rules.now }
     {
-        Listed { rules }
+        Listed {
+            rules,
+            looks_for: Clear::Nowhere,
+        }
+    }
+
+    /// The same rules, judged after a look at whether the stop time updates of an entity are sound: those within a message
+    /// aren't judged at each one where they all are.
+    pub fn within_messages(rules: &'static [RuleId]) -> Listed
+        requires { are_apart rules.now ≡ true }
+        ensures { result.rules.now ≡ rules.now }
+    {
+        Listed {
+            rules,
+            looks_for: Clear::Sound,
+        }
+    }
+
+    /// The same rules, judged after a look at whether the stop time updates of an entity keep to the timetable: those against
+    /// it aren't judged at each one where they all do.
+    pub fn against_timetable(rules: &'static [RuleId]) -> Listed
+        requires { are_apart rules.now ≡ true }
+        ensures { result.rules.now ≡ rules.now }
+    {
+        Listed {
+            rules,
+            looks_for: Clear::Kept,
+        }
     }
 
     /// Ticks once for each rule, as judging does, and judges none of them: for what is known to be empty.
@@ -63,6 +92,7 @@ impl LocalRule for Listed {
         steps: &mut Steps<L>,
     ) -> Result<(), AllocError> {
         let answers = LocalAnswers { table, key, entity };
-        judge_rules(alloc, &answers, self.rules, key, entity, out, steps)
+        let clear = self.looks_for.at(table, entity);
+        judge_unclear(alloc, &answers, clear, self.rules, key, entity, out, steps)
     }
 }

@@ -44,7 +44,7 @@ impl ScheduleGroup {
     #[tactic(auto, unfolding(crate::specs::Schedule::schedule_rules))]
     pub fn new() -> ScheduleGroup {
         ScheduleGroup {
-            inner: Listed::new(RULES),
+            inner: Listed::against_timetable(RULES),
         }
     }
 }

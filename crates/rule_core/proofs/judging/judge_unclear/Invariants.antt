@@ -1,7 +1,7 @@
 use Rattle.std.proofs.Common.{◌≡◌, ◌+◌, ◌++◌, drop}
 use Rattle.feed_values.specs.Views.{entity_value}
 use Rattle.rule_core.specs.Judged.{found_all}
-use Rattle.rule_core.proofs.judging.judge_rules.Given as goal
+use Rattle.rule_core.proofs.judging.judge_unclear.Given as goal
 
 -- the findings so far and those of the rules that are left are those of all rules, and each rule so far has ticked
 abbrev pub invariant-loop-rule : goal.invariant-loop-rule

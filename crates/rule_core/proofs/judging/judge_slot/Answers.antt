@@ -1,0 +1,10 @@
+use Rattle.std.proofs.Common.{rules}
+use Rattle.feed_values.specs.Views.{entity_value}
+use Rattle.rule_core.specs.Clear.{cleared}
+use Rattle.rule_core.proofs.NoneThere.{clear_there}
+use Rattle.rule_core.proofs.judging.judge_slot.Goals as goal
+
+pub returns-then-has : goal.returns-then-has
+returns-then-has g c =
+    let none = clear_there (g.A.Answers.answers c.args.answers.now) c.args.key.now (entity_value c.args.entity.now) c.args.rule c.args.slot (cleared c.args.clear) c.requires.clear (c.has.ensures c.if-has.true) in
+    rw none (search rules)

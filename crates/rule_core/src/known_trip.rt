@@ -1,0 +1,42 @@
+//! The trip of an entity's trip update, looked up once for all its stop time updates.
+ghost use Rattle.std.specs.Prelude.{◌≡◌, Some, option_and_then, option_copied};
+ghost use Rattle.std.specs.FinMap.{get};
+ghost use Rattle.feed_values.specs.Views.{entity_value};
+ghost use Rattle.rule_core.specs.KnownTrips.{IsTripAt};
+
+use crate::stop_cells::cell_in;
+use feed_values::{CellRef, Entity, Slot};
+use timetable::{StopTime, Timetable, TripTimes};
+
+/// A trip of trips.txt. Its stop times are None where it has none.
+#[derive(Clone, Copy)]
+pub(crate) struct KnownTrip<'a> {
+    pub times: Option<&'a TripTimes>,
+}
+
+impl<'a> KnownTrip<'a> {
+    /// The stop time at a stop_sequence.
+    pub fn at(self, sequence: u32) -> Option<&'a StopTime>
+        ensures { option_copied result ≡ option_and_then (λ times. get times sequence) (option_copied self.entry.times) }
+    {
+        match self.times {
+            Some(times) => times.get(sequence),
+            None => None,
+        }
+    }
+}
+
+/// The trip that an entity's trip update gives, where it gives one that is known.
+pub(crate) fn known_trip<'a>(table: &'a Timetable, entity: &Entity) -> Option<KnownTrip<'a>>
+    ensures { IsTripAt table.now (entity_value entity.now) result }
+{
+    let CellRef::Text(id) = cell_in(entity, Slot::S21, 0) else {
+        return None;
+    };
+    let Some(trip) = table.trip(id) else {
+        return None;
+    };
+    Some(KnownTrip {
+        times: table.times(trip),
+    })
+}
