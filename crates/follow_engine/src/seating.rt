@@ -1,30 +1,16 @@
 //! The entities of a snapshot under their keys.
-ghost use Rattle.std.specs.Prelude.{◌≡◌, ◌+◌, ℕ, List, IfOk, OnOk, bytes_eq, if◌then◌else◌};
-ghost use Rattle.judging.specs.Seats.{count_in};
+ghost use Rattle.std.specs.Prelude.{IfOk};
 ghost use Rattle.follow_engine.specs.Seated.{AreSeats};
 
 use crate::seat::Seat;
 use feed_codec::decode_entity;
 use feed_stream::Kept;
+use judging::count_one;
 use rt_outside::Steps;
 use rule_core::EntityKey;
 use std::alloc::{AllocError, Global};
 use std::collections::BTreeMap;
 use std::sync::ledger::Ledger;
-
-/// How often an id was counted; then it is counted once more.
-fn count_one(alloc: Global, counts: &mut BTreeMap<String, u32>, id: &str) -> Result<u32, AllocError>
-    ensures before { IfOk result (λ n. n ≡ count_in counts.old id.now) }
-    ensures after { OnOk result ((other : List ℕ) → count_in counts.new other ≡ (if bytes_eq id.now other then 1 else 0) + count_in counts.old other) }
-{
-    let before = counts.get(id).copied().unwrap_or(0);
-    if before == u32::MAX {
-        return Err(AllocError);
-    }
-    let id = String::from_str(alloc, id)?;
-    counts.insert(id, before + 1)?;
-    Ok(before)
-}
 
 /// The entities of a snapshot of a feed, decoded, under their keys.
 ///
