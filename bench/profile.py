@@ -4,7 +4,7 @@
 Counts instructions under valgrind (Debian's valgrind), over a snapshot in which no rule breaks, and over trips with 20 updates
 each and vehicles of three of ten, with a timetable of twice as many trips. A function's instructions count for the crate that
 its name begins with; what a crate calls of another, and what the compiler puts into a caller, counts where it stands. Memory
-calls and copies of the C library stand by themselves.
+calls and copies of the C library stand by themselves. The last line counts decoding and rules with all that they call.
 """
 import collections, os, re, subprocess, sys, tempfile
 from judging import trips_and_vehicles
@@ -12,6 +12,9 @@ from measuring import make, program
 
 CODEC = ("rt_wire", "feed_values", "feed_codec")
 RULES = ("rule_core", "message_rules", "schedule_rules", "pairing_rules", "history_rules", "judging")
+# Functions that call all of decoding, or all that judges: of each the call that takes most.
+DECODE = ("feed_codec::snapshot::check_snapshot", "feed_codec::message::merge::")
+JUDGE = ("judging::all_rules::AllRules::judge_entity", "kept_rows::rows::add_rows")
 
 
 def crate_of(name):
@@ -19,28 +22,41 @@ def crate_of(name):
     return found.group(1) if found else "C library"
 
 
+def functions(out, *flags):
+    """Instructions by function: pairs of a name and a count."""
+    text = subprocess.run(["callgrind_annotate", "--threshold=100", *flags, out], capture_output=True, text=True, check=True).stdout
+    for line in text.splitlines():
+        found = re.match(r"\s*([\d,]+) \([ \d.]+%\)\s+\S+?:(.+?)(?: \[|$)", line)
+        if found:
+            yield found.group(2), int(found.group(1).replace(",", ""))
+
+
 def counted(words):
-    """Instructions by crate, of a run with these words."""
+    """Instructions by crate, of a run with these words, and those of the functions of DECODE and JUDGE with all that they call."""
     with tempfile.TemporaryDirectory() as folder:
         out = os.path.join(folder, "out")
         subprocess.run(["valgrind", "--tool=callgrind", "--callgrind-out-file=" + out, program()] + words,
                        stdout=subprocess.DEVNULL, stderr=subprocess.DEVNULL, check=False)
-        text = subprocess.run(["callgrind_annotate", "--threshold=100", out], capture_output=True, text=True, check=True).stdout
-    crates = collections.Counter()
-    for line in text.splitlines():
-        found = re.match(r"\s*([\d,]+) \([ \d.]+%\)\s+\S+?:(.+?)(?: \[|$)", line)
-        if found:
-            crates[crate_of(found.group(2))] += int(found.group(1).replace(",", ""))
-    return crates
+        crates = collections.Counter()
+        for name, count in functions(out):
+            crates[crate_of(name)] += count
+        whole = collections.Counter()
+        for name, count in functions(out, "--inclusive=yes"):
+            for begin in DECODE + JUDGE:
+                if name.startswith(begin):
+                    whole[begin] = max(whole[begin], count)
+    return crates, whole
 
 
-def show(name, crates):
+def show(name, run):
+    crates, calls = run
     whole = sum(crates.values())
     print("%s: %.1f million instructions" % (name, whole / 1e6))
     for crate, count in crates.most_common(14):
         print("    %-16s %8.1f %6.1f %%" % (crate, count / 1e6, 100 * count / whole))
     print("    decoding (%s) %.1f, rules (%s) %.1f" % (", ".join(CODEC), sum(crates[c] for c in CODEC) / 1e6,
                                                        ", ".join(RULES), sum(crates[c] for c in RULES) / 1e6))
+    print("    with all that they call: decoding %.1f, rules %.1f" % (sum(calls[f] for f in DECODE) / 1e6, sum(calls[f] for f in JUDGE) / 1e6))
 
 
 def main():
