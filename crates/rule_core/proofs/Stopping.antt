@@ -15,7 +15,7 @@ use Rattle.rule_core.specs.Asked.{value_at}
 use Rattle.rule_core.specs.Passed.{holds, passes, passes_by, later, last_of}
 use Rattle.rule_core.specs.Cited.{value_from, value_then, broken_from}
 
-value_stays : (vs rest : List CellValue) (k : ℕ) → k < length vs → value_at (vs ++ rest) k ≡ value_at vs k
+pub value_stays : (vs rest : List CellValue) (k : ℕ) → k < length vs → value_at (vs ++ rest) k ≡ value_at vs k
 value_stays vs rest k h =
     unwrap_or-slice_get (vs ++ rest) k value.Missing ∙ get_or_append_left vs rest value.Missing k h ∙ sym (unwrap_or-slice_get vs k value.Missing)
 
@@ -91,7 +91,7 @@ passes_false at n [] vs h = cc
 passes_false at n (a ∷ atoms) vs h =
     one_fails (last_of a == n) (passes_by at n atoms vs) (passes at atoms vs) (holds at vs a) (passes_false at n atoms vs) h
 
-none_after : (o : Option CellValue) (f : CellValue → Bool) → ((v : CellValue) → f v ≡ false) → value_then o f ≡ false
+pub none_after : (o : Option CellValue) (f : CellValue → Bool) → ((v : CellValue) → f v ≡ false) → value_then o f ≡ false
 none_after None f h = refl
 none_after (Some v) f h = h v
 

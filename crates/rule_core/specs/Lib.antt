@@ -7,7 +7,7 @@ pub mod Passed
 pub mod Cited
 pub mod Broken
 pub mod Found
-pub mod Filled
+pub mod Settled
 pub mod Keeping
 pub mod KnownTrips
 pub mod Sound

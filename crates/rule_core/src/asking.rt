@@ -247,8 +247,13 @@ fn own_path(place: PlaceRef<'_>, cite: Cite) -> Option<Path>
             Cite::Place => Some(path),
             Cite::Cell(slot) => Some(path_of(slot, path.index)),
             Cite::Before(slot) => Some(path_of(slot, path.index.saturating_sub(1))),
+            Cite::TripId => Some(path_of(trip_id(path.slot), path.index)),
+            Cite::StartTime => Some(path_of(start_time(path.slot), path.index)),
+            Cite::StartDate => Some(path_of(start_date(path.slot), path.index)),
+            Cite::Relationship => Some(path_of(relationship(path.slot), path.index)),
             Cite::Delay => Some(path_of(delay(path.slot), path.index)),
             Cite::Time => Some(path_of(time(path.slot), path.index)),
+            Cite::Holder => Some(path_of(holder(path.slot), path.index)),
             _ => None,
         },
     }

@@ -14,12 +14,12 @@ ghost use Rattle.rule_core.specs.Judged.{found_at, found_below, found_by, found_
 use crate::answers::Answers;
 use crate::citing::{cite, is_broken};
 use crate::clear::Clear;
-use crate::filled::breaks_nowhere;
 use crate::finding::Finding;
 use crate::finding_list::FindingList;
 use crate::key::EntityKey;
 use crate::place::PlaceRef;
 use crate::rule::RuleId;
+use crate::settled::is_settled;
 use crate::table::{cites_at, first, head_slots, slots, test_at};
 use feed_values::{Alert, Entity, Path, Slot, TripUpdate};
 use rt_outside::Steps;
@@ -110,6 +110,25 @@ fn judge_place<A: Answers>(
     out.push(Finding::new(rule, place, facts))
 }
 
+/// Judges a rule at one path of an entity, unless what stands there settles that it isn't broken.
+fn judge_path<A: Answers>(
+    alloc: Global,
+    answers: &A,
+    rule: RuleId,
+    key: &EntityKey,
+    path: Path,
+    out: &mut FindingList,
+) -> Result<(), AllocError>
+    requires listed { Contains (slots_of rule) path.slot }
+    requires plain { has_item (way path.slot) ≡ false → path.index ≡ 0 }
+    ensures { OnOk result (out.new ≡ out.old ++ found_at rule (A.answers answers.now) (place.Entity key.now path)) }
+{
+    if is_settled(answers, rule, path) {
+        return Ok(());
+    }
+    judge_place(alloc, answers, rule, PlaceRef::Entity(key, path), out)
+}
+
 /// Judges a rule at one slot of an entity, unless it is clear that it breaks nowhere there.
 fn judge_slot<A: Answers>(
     alloc: Global,
@@ -133,17 +152,8 @@ fn judge_slot<A: Answers>(
         return Err(AllocError);
     }
     let places = places as u32;
-    if places > 1 && breaks_nowhere(answers, rule, key, slot, places) {
-        return Ok(());
-    }
     for index in 0..places {
-        judge_place(
-            alloc,
-            answers,
-            rule,
-            PlaceRef::Entity(key, Path { slot, index }),
-            out,
-        )?;
+        judge_path(alloc, answers, rule, key, Path { slot, index }, out)?;
     }
     Ok(())
 }
