@@ -1,14 +1,29 @@
 -- Stop time updates that break no rule within their message, each by itself and after the one before it. (GTFS Realtime Reference
 -- 2.0, "StopTimeUpdate", "StopTimeEvent"; what being sound is, is this profile's.)
-use Rattle.std.specs.Prelude.{◌≡◌, ◌<◌, ◌-◌, ℕ, zero, suc, pos, int_le, Bool, true, false, not, ◌&&◌, ◌||◌}
+use Rattle.std.specs.Prelude.{◌≡◌, ◌<◌, ◌-◌, ℕ, zero, suc, pos, int_le, Bool, true, false, not, ◌&&◌, ◌||◌, List, map, Some, slice_get}
 use Rattle.feed_values.specs.Schema.{Value}
-use Rattle.feed_values.specs.Messages.{entity}
+use Rattle.feed_values.specs.Messages.{entity, trip_update, stop_time_update}
+use Rattle.feed_values.specs.Views.{stop_time_update_value}
+use Rattle.feed_values.specs.declared.stop_time_update.StopTimeUpdate.{StopTimeUpdate}
 use Rattle.feed_values.specs.Cells.{entity_cell, cell_value}
 use Rattle.feed_values.specs.declared.slot.Slot.TheVariants.{S32, S33, S34, S35, S36, S37, S38, S39, S40}
 use Rattle.feed_values.specs.declared.cell_value.CellValue.{CellValue}
 use Rattle.rule_core.specs.declared.stop_cells.StopCells.{StopCells}
 use Rattle.rule_core.specs.Asked.{number_in}
+use Rattle.rule_core.specs.Judged.{update_of}
 use Rattle.rule_core.specs.Passed.{given_or, is_given, is_number, number_is, numbers_are, same_cell}
+
+-- these are the stop time updates of an entity's trip update
+pub record AreUpdates (e : Value entity) (stops : List StopTimeUpdate) : Type 0 where
+  pub update : Value trip_update
+  pub held : update_of e ≡ Some update
+  pub list : update.1.0 ≡ map stop_time_update_value stops
+
+-- this is the one at an index
+pub record IsUpdateAt (e : Value entity) (i : ℕ) (v : Value stop_time_update) : Type 0 where
+  pub update : Value trip_update
+  pub held : update_of e ≡ Some update
+  pub item : slice_get update.1.0 i ≡ Some v
 
 -- the cells of the stop time update at an index
 pub record AreCells (stop : StopCells) (e : Value entity) (i : ℕ) : Type 0 where
@@ -41,8 +56,8 @@ equal v w = is_given v && same_cell v w
 abbrev pub is_timed : CellValue → CellValue → CellValue → Bool
 is_timed event delay time = not (is_given event) || (is_given delay || is_given time)
 
--- an update by itself: where it stands is given; it has an event, or is skipped (1) or without data (2), and then has none;
--- events have times; the departure isn't before the arrival
+-- an update by itself: where it stands is given; it has an event, unless it is skipped (1) or without data (2), and has none
+-- where it is without data; events have times; the departure isn't before the arrival
 pub record IsSound (e : Value entity) (i : ℕ) : Type 0 where
   pub named : (is_given (entity_cell e S32 i) || is_given (entity_cell e S33 i)) ≡ true
   pub told : (is_number 1 (entity_cell e S34 i) || (is_number 2 (entity_cell e S34 i) || (is_given (entity_cell e S35 i) || is_given (entity_cell e S38 i)))) ≡ true

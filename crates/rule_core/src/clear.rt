@@ -6,7 +6,6 @@ ghost use Rattle.rule_core.specs.Clear.{AreClear, cleared};
 ghost use Rattle.rule_core.specs.Laws.{IsAmong};
 ghost use Rattle.rule_core.specs.declared.key.EntityKey.{EntityKey};
 
-use crate::judging::updates;
 use crate::keeping::keep;
 use crate::rule::RuleId;
 use crate::sound::are_sound;
@@ -30,14 +29,18 @@ impl Clear {
     pub fn at(self, table: &Timetable, entity: &Entity) -> Clear
         ensures { (key : EntityKey) → AreClear (local_answer (tables_of table.now) key (entity_value entity.now)) key (entity_value entity.now) result }
     {
-        let places = updates(&entity.trip_update);
-        if places == 0 || places > 4294967295 {
+        let Some(update) = &entity.trip_update else {
+            return Clear::Nowhere;
+        };
+        let stops = update.stop_time_update.as_slice();
+        if stops.is_empty() || stops.len() > 4294967295 {
             return Clear::Nowhere;
         }
-        let places = places as u32;
         match self {
-            Clear::Sound if are_sound(entity, places) => Clear::Sound,
-            Clear::Kept if table.is_present() && keep(table, entity, places) => Clear::Kept,
+            Clear::Sound if are_sound(entity, stops) => Clear::Sound,
+            Clear::Kept if table.is_present() && keep(table, entity, stops.len() as u32) => {
+                Clear::Kept
+            }
             _ => Clear::Nowhere,
         }
     }

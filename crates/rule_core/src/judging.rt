@@ -26,7 +26,7 @@ use rt_outside::Steps;
 use std::alloc::{AllocError, Global};
 use std::sync::ledger::Ledger;
 
-pub(crate) fn updates(held: &Option<TripUpdate>) -> usize
+fn updates(held: &Option<TripUpdate>) -> usize
     ensures { result ≡ updates_in (option_map trip_update_value held.now) }
 {
     match held {
@@ -238,7 +238,7 @@ pub fn judge_rules<A: Answers, L: Ledger>(
     )
 }
 
-/// The same without a look at what is clear.
+/// The same, but for what is known to be clear: a rule isn't judged at a slot at which it is known to break nowhere.
 pub(crate) fn judge_unclear<A: Answers, L: Ledger>(
     alloc: Global,
     answers: &A,

@@ -1,14 +1,14 @@
 //! Whether the stop time updates of an entity break no rule within their message. Nothing here takes memory.
-ghost use Rattle.std.specs.Prelude.{◌≡◌, ◌-◌, true};
+ghost use Rattle.std.specs.Prelude.{◌≡◌, ◌-◌, true, length};
 ghost use Rattle.feed_values.specs.Cells.{cell_value};
 ghost use Rattle.feed_values.specs.Views.{entity_value};
-ghost use Rattle.rule_core.specs.Sound.{AreCells, Follows, IsSound, SoundBelow, is_timed, no_time};
+ghost use Rattle.rule_core.specs.Sound.{AreCells, AreUpdates, Follows, IsSound, SoundBelow, is_timed, no_time};
 
 use crate::passing::{
     are_equal, given_or, is_at_most, is_below, is_given, is_number, is_outside, number_of,
 };
 use crate::stop_cells::{StopCells, stop_cells};
-use feed_values::{CellRef, Entity};
+use feed_values::{CellRef, Entity, StopTimeUpdate};
 
 fn is_timed(event: CellRef<'_>, delay: CellRef<'_>, time: CellRef<'_>) -> bool
     ensures { result ≡ is_timed (cell_value event.entry) (cell_value delay.entry) (cell_value time.entry) }
@@ -23,7 +23,7 @@ fn is_no_time(time: CellRef<'_>) -> bool
 }
 
 /// Whether an update breaks no rule by itself.
-fn is_sound(entity: &Entity, index: u32, stop: StopCells<'_>) -> bool
+fn is_sound(entity: &Entity, index: usize, stop: StopCells<'_>) -> bool
     requires { AreCells stop (entity_value entity.now) index }
     ensures { result ≡ true → IsSound (entity_value entity.now) index }
 {
@@ -43,7 +43,7 @@ fn is_sound(entity: &Entity, index: u32, stop: StopCells<'_>) -> bool
 }
 
 /// Whether an update breaks no rule after the one before it, where it isn't the first.
-fn follows(entity: &Entity, index: u32, before: StopCells<'_>, stop: StopCells<'_>) -> bool
+fn follows(entity: &Entity, index: usize, before: StopCells<'_>, stop: StopCells<'_>) -> bool
     requires before { AreCells before (entity_value entity.now) (index - 1) }
     requires stop { AreCells stop (entity_value entity.now) index }
     ensures { result ≡ true → Follows (entity_value entity.now) index }
@@ -58,13 +58,17 @@ fn follows(entity: &Entity, index: u32, before: StopCells<'_>, stop: StopCells<'
             ))
 }
 
-/// Whether each of so many updates breaks no rule.
-pub(crate) fn are_sound(entity: &Entity, places: u32) -> bool
-    ensures { result ≡ true → SoundBelow (entity_value entity.now) places }
+/// Whether none of an entity's updates breaks a rule.
+pub(crate) fn are_sound(entity: &Entity, stops: &[StopTimeUpdate]) -> bool
+    requires { AreUpdates (entity_value entity.now) stops.now }
+    ensures { result ≡ true → SoundBelow (entity_value entity.now) (length stops.now) }
 {
-    let mut before = stop_cells(entity, 0);
-    for index in 0..places {
-        let stop = stop_cells(entity, index);
+    let Some(first) = stops.first() else {
+        return true;
+    };
+    let mut before = stop_cells(first);
+    for (index, stop) in stops.iter().enumerate() {
+        let stop = stop_cells(stop);
         if !follows(entity, index, before, stop) || !is_sound(entity, index, stop) {
             return false;
         }

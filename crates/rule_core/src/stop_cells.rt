@@ -1,10 +1,15 @@
-//! The cells of a stop time update, read once for all rules.
-ghost use Rattle.std.specs.Prelude.{◌≡◌};
-ghost use Rattle.feed_values.specs.Cells.{cell_value, entity_cell};
-ghost use Rattle.feed_values.specs.Views.{entity_value};
-ghost use Rattle.rule_core.specs.Sound.{AreCells};
+//! The cells of a stop time update, read once for the rules within a message.
+ghost use Rattle.std.specs.Prelude.{◌≡◌, ℕ, pos};
+ghost use Rattle.feed_values.specs.Schema.{Value};
+ghost use Rattle.feed_values.specs.Messages as messages;
+ghost use Rattle.feed_values.specs.Cells.{cell_value, entity_cell, number_cell, text_cell};
+ghost use Rattle.feed_values.specs.Meaning.{option_case};
+ghost use Rattle.feed_values.specs.Views.{entity_value, stop_time_update_value};
+ghost use Rattle.feed_values.specs.declared.cell_value.CellValue.TheVariants.{Missing, Number};
+ghost use Rattle.rule_core.specs.Sound.{AreCells, IsUpdateAt};
 
-use feed_values::{CellRef, Entity, Path, Slot, field_at};
+use crate::cells::number_cell;
+use feed_values::{CellRef, Entity, Path, Slot, StopTimeEvent, StopTimeUpdate, Text, field_at};
 
 #[derive(Clone, Copy, Debug)]
 pub(crate) struct StopCells<'a> {
@@ -26,19 +31,64 @@ pub(crate) fn cell_in(entity: &Entity, slot: Slot, index: u32) -> CellRef<'_>
     field_at(entity, Path { slot, index })
 }
 
-/// The cells of the stop time update at an index.
-pub(crate) fn stop_cells(entity: &Entity, index: u32) -> StopCells<'_>
-    ensures { AreCells result (entity_value entity.now) index }
+fn integer_cell(number: Option<i64>) -> CellRef<'static>
+    ensures { cell_value result ≡ number_cell number }
+{
+    match number {
+        Some(number) => CellRef::Number(number as i128),
+        None => CellRef::Missing,
+    }
+}
+
+fn id_cell(id: &Option<Text>) -> CellRef<'_>
+    ensures { cell_value result ≡ text_cell id.now }
+{
+    match id {
+        Some(id) => CellRef::Text(id.as_str()),
+        None => CellRef::Missing,
+    }
+}
+
+fn event_cell(event: &Option<StopTimeEvent>) -> CellRef<'static>
+    ensures { cell_value result ≡ option_case event.now Missing (λ _. Number (pos 1)) }
+{
+    match event {
+        Some(_) => CellRef::Number(1),
+        None => CellRef::Missing,
+    }
+}
+
+fn delay_cell(event: &Option<StopTimeEvent>) -> CellRef<'static>
+    ensures { cell_value result ≡ option_case event.now Missing (λ e. number_cell e.delay) }
+{
+    match event {
+        Some(event) => integer_cell(event.delay.map(i64::from)),
+        None => CellRef::Missing,
+    }
+}
+
+fn time_cell(event: &Option<StopTimeEvent>) -> CellRef<'static>
+    ensures { cell_value result ≡ option_case event.now Missing (λ e. number_cell e.time) }
+{
+    match event {
+        Some(event) => integer_cell(event.time),
+        None => CellRef::Missing,
+    }
+}
+
+/// The cells of an update, wherever it stands.
+pub(crate) fn stop_cells(stop: &StopTimeUpdate) -> StopCells<'_>
+    ensures { (e : Value messages.entity) (i : ℕ) → IsUpdateAt e i (stop_time_update_value stop.now) → AreCells result e i }
 {
     StopCells {
-        sequence: cell_in(entity, Slot::S32, index),
-        id: cell_in(entity, Slot::S33, index),
-        relationship: cell_in(entity, Slot::S34, index),
-        arrival: cell_in(entity, Slot::S35, index),
-        arrival_delay: cell_in(entity, Slot::S36, index),
-        arrival_time: cell_in(entity, Slot::S37, index),
-        departure: cell_in(entity, Slot::S38, index),
-        departure_delay: cell_in(entity, Slot::S39, index),
-        departure_time: cell_in(entity, Slot::S40, index),
+        sequence: number_cell(stop.stop_sequence),
+        id: id_cell(&stop.stop_id),
+        relationship: number_cell(stop.schedule_relationship),
+        arrival: event_cell(&stop.arrival),
+        arrival_delay: delay_cell(&stop.arrival),
+        arrival_time: time_cell(&stop.arrival),
+        departure: event_cell(&stop.departure),
+        departure_delay: delay_cell(&stop.departure),
+        departure_time: time_cell(&stop.departure),
     }
 }

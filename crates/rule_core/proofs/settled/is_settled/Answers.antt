@@ -1,4 +1,4 @@
-use Rattle.std.proofs.Common.{◌≡◌, ◌∙◌, Some, sym, true, rules}
+use Rattle.std.proofs.Common.{◌≡◌, Some, true, rules}
 use Rattle.feed_values.specs.Cells.{cell_value}
 use Rattle.rule_core.specs.declared.ask.Ask.TheVariants as ask
 use Rattle.rule_core.specs.Passed.{is_given}
