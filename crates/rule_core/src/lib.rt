@@ -4,9 +4,9 @@
 //! `specs/Table.antt` is the table, and `table` the same as code; the contracts of `table` say that they are equal. A
 //! rule is a row and has no code of its own. `judge_rules` and `judge_heads` judge rows at an entity and on a header, with
 //! whatever `Answers` their asks. A place where the rule doesn't break takes no memory: cells are read borrowed, and a
-//! condition is tested as soon as its last cell is read. Where a rule wants a field missing that is given at each place of a
-//! list, one look along the list settles them all. Stop time updates are looked at before any rule is judged: where all are
-//! sound, or keep to the timetable (`clear`, `sound`, `keeping`), fifteen rules needn't be asked at each of them.
+//! condition is tested as soon as its last cell is read. The field of the place itself is looked at before anything is cited,
+//! and settles most places (`settled`). Stop time updates are looked at before any rule is judged: where all are sound, or keep
+//! to the timetable (`clear`, `sound`, `keeping`), fifteen rules needn't be asked at each of them.
 //!
 //! A `Finding` is a rule, a place and the facts that it cites there. They break the rule, in every finding that there
 //! is, so a finding can be shown by itself.
