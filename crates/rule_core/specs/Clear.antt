@@ -1,25 +1,36 @@
 -- Slots at which some rules are known to break nowhere.
-use Rattle.std.specs.Prelude.{◌≡◌, List, [], ◌∷◌, Option}
+use Rattle.std.specs.Prelude.{◌≡◌, Bool, true, false, List, [], ◌∷◌, ◌++◌, Option}
 use Rattle.feed_values.specs.Schema.{Value}
 use Rattle.feed_values.specs.Messages.{entity}
 use Rattle.feed_values.specs.declared.slot.Slot.{Slot}
-use Rattle.feed_values.specs.declared.slot.Slot.TheVariants.{S31, S32, S33, S35, S37, S38, S40}
+use Rattle.feed_values.specs.declared.slot.Slot.TheVariants.{S31, S32, S33, S34, S35, S37, S38, S40}
 use Rattle.feed_values.specs.declared.cell_value.CellValue.{CellValue}
 use Rattle.rule_core.specs.declared.ask.Ask.{Ask}
 use Rattle.rule_core.specs.declared.key.EntityKey.{EntityKey}
 use Rattle.rule_core.specs.declared.rule.RuleId.{RuleId}
-use Rattle.rule_core.specs.declared.rule.RuleId.TheVariants.{E001, E002, E011, E015, E022, E025, E036, E037, E040, E042, E043, E044, E045, E046, E051}
+use Rattle.rule_core.specs.declared.rule.RuleId.TheVariants.{E001, E002, E009, E011, E015, E022, E025, E036, E037, E040, E042, E043, E044, E045, E046, E051, W009}
 use Rattle.rule_core.specs.declared.clear.Clear.{Clear}
 use Rattle.rule_core.specs.declared.clear.Clear.TheVariants as clear
 use Rattle.rule_core.specs.Groups.{Each}
 use Rattle.rule_core.specs.Judged.{found_below, places_at}
 
 -- the rules and slots that are clear where each stop time update is sound, and where each keeps to the timetable
+abbrev pub where_sound : List (RuleId × Slot)
+where_sound = (E001, S37) ∷ (E001, S40) ∷ (E002, S32) ∷ (E022, S31) ∷ (E025, S40) ∷ (E036, S32) ∷ (E037, S33) ∷ (E040, S31)
+    ∷ (E042, S35) ∷ (E042, S38) ∷ (E043, S31) ∷ (E044, S35) ∷ (E044, S38) ∷ []
+
+abbrev pub where_kept : List (RuleId × Slot)
+where_kept = (E011, S33) ∷ (E015, S33) ∷ (E045, S33) ∷ (E046, S35) ∷ (E046, S38) ∷ (E051, S32) ∷ []
+
+abbrev pub when : {A : Type 0} → Bool → List A → List A
+when true l = l
+when false l = []
+
+-- one more is clear where each gives its schedule_relationship, and one where each gives its stop_sequence
 abbrev pub cleared : Clear → List (RuleId × Slot)
 cleared clear.Nowhere = []
-cleared clear.Sound = (E001, S37) ∷ (E001, S40) ∷ (E002, S32) ∷ (E022, S31) ∷ (E025, S40) ∷ (E036, S32) ∷ (E037, S33) ∷ (E040, S31)
-    ∷ (E042, S35) ∷ (E042, S38) ∷ (E043, S31) ∷ (E044, S35) ∷ (E044, S38) ∷ []
-cleared clear.Kept = (E011, S33) ∷ (E015, S33) ∷ (E045, S33) ∷ (E046, S35) ∷ (E046, S38) ∷ (E051, S32) ∷ []
+cleared (clear.Sound related) = where_sound ++ when related ((W009, S34) ∷ [])
+cleared (clear.Kept sequenced) = where_kept ++ when sequenced ((E009, S32) ∷ [])
 
 -- a rule has no findings at a slot of an entity
 abbrev pub IsClear : (Ask → Option CellValue) → EntityKey → Value entity → RuleId × Slot → Type 0

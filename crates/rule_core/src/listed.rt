@@ -5,7 +5,7 @@ ghost use Rattle.rule_core.specs.GroupLaws.{all_own, all_once};
 ghost use Rattle.rule_core.specs.Judged.{found_all};
 ghost use Rattle.rule_core.specs.Answered.{local_answer};
 
-use crate::clear::Clear;
+use crate::clear::Look;
 use crate::finding_list::FindingList;
 use crate::judging::judge_unclear;
 use crate::key::EntityKey;
@@ -22,7 +22,7 @@ use timetable::Timetable;
 #[derive(Drop)]
 pub struct Listed {
     rules: &'static [RuleId],
-    looks_for: Clear,
+    looks_for: Look,
     ghost apart: { are_apart rules.now ≡ true },
 }
 
@@ -33,7 +33,7 @@ impl Listed {
     {
         Listed {
             rules,
-            looks_for: Clear::Nowhere,
+            looks_for: Look::Nothing,
         }
     }
 
@@ -45,7 +45,7 @@ impl Listed {
     {
         Listed {
             rules,
-            looks_for: Clear::Sound,
+            looks_for: Look::Soundness,
         }
     }
 
@@ -57,7 +57,7 @@ impl Listed {
     {
         Listed {
             rules,
-            looks_for: Clear::Kept,
+            looks_for: Look::Timetable,
         }
     }
 
