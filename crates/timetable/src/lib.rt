@@ -32,6 +32,7 @@ mod grouped;
 mod header;
 mod headway;
 mod id;
+mod late_times;
 mod laws;
 mod location_type;
 mod numbered;
