@@ -52,11 +52,13 @@ pub find-lookup : (es : Entries) (q : ℕ) → find nat_cmp q es ≡ lookup (is_
 find-lookup [] q = refl
 find-lookup (e ∷ es) q = ap (cond (eq_by_cmp nat_cmp q e.0) (Some e.1)) (find-lookup es q)
 
+-- a write over an entry with the key
 over : (k q : ℕ) (t v : StopTime) (b : Bool) → eq_by_cmp nat_cmp q k ≡ b → (o : Option StopTime)
     → cond b (Some t) o ≡ cond (eq_by_cmp nat_cmp q k) (Some t) (cond b (Some v) o)
 over k q t v true is o = rw is refl
 over k q t v false is o = rw is refl
 
+-- and a write behind one with another key
 beside : (k e q : ℕ) (t v : StopTime) → eq_by_cmp nat_cmp k e ≡ false → (b : Bool) → eq_by_cmp nat_cmp q e ≡ b → (c : Bool) → eq_by_cmp nat_cmp q k ≡ c → (o p : Option StopTime)
     → o ≡ cond c (Some t) p → cond b (Some v) o ≡ cond c (Some t) (cond b (Some v) p)
 beside k e q t v apart true here true there o p is = absurd (grind (arith, nat_tests, here, there, apart))

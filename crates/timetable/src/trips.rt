@@ -17,7 +17,7 @@ use std::marker::Model;
 
 /// The trips of the rows so far, by id. Contracts see a finite map from the ids' bytes.
 ///
-/// Trips have few routes and services beside their number, so they share the texts of these.
+/// Many trips have one route and one service, so they share the texts of these.
 #[derive(Drop)]
 pub(crate) struct Trips {
     trips: Grouped<Only<Trip>>,
