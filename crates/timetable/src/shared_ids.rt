@@ -38,7 +38,7 @@ impl SharedId {
     }
 }
 
-/// Texts of ids, once each.
+/// Texts of ids, once each. They save memory and nothing else, so no clause speaks of them.
 #[derive(Drop)]
 pub(crate) struct SharedIds {
     texts: IndexSet<RcStr>,
