@@ -1,15 +1,19 @@
 -- The last payload of all is that of the last field that has one.
-use Rattle.std.proofs.Common.{◌≡◌, ℕ, ◌≤◌, length, get_or, cond, eqb, Bool, true, false, Some, None, arith, List, [], ◌∷◌, ◌++◌, refl, sym, ap, ◌∙◌}
+use Rattle.std.proofs.Common.{◌≡◌, ℕ, Some, None, Ok, Err, List, [], ◌∷◌, ◌++◌, refl, sym, ap, ◌∙◌, append-nil, option_copied}
+use Rattle.std.specs.declared.result.Result.{Result}
+use denote.Ref.{Bor}
 use Rattle.std.specs.declared.option.Option.{Option}
 use Rattle.std.specs.Option.{option_or}
 use Rattle.std.specs.List.{flat_map}
 use Rattle.std.proofs.lemmas.List.Concat.{flat_map-append}
 use Rattle.std.proofs.lemmas.Bool.{ne_eqb}
+use Rattle.rt_wire.specs.declared.fault.WireFault.{WireFault}
 use Rattle.rt_wire.specs.Fields.{WireField}
-use Rattle.feed_values.specs.Meaning.{fields, given, in_slot, payload_in, last_of}
+use Rattle.rt_wire.specs.Placed.{PlacedField, Remaining, placed_fields}
+use Rattle.feed_values.specs.Meaning.{fields, whole_fields, given, in_slot, payload_in, last_of, option_case}
 use Rattle.feed_codec.specs.Paths.{deep}
 use Rattle.feed_codec.proofs.Meanings.{given-append}
-use Rattle.entity_ids.specs.Paths.{last_at}
+use Rattle.entity_ids.specs.Paths.{last_at, within}
 
 deep-append : (path : List ℕ) (a b : List WireField) → deep path (a ++ b) ≡ deep path a ++ deep path b
 deep-append [] a b = refl
@@ -34,40 +38,58 @@ last_more path n r l =
     ∙ ap last_of (given-append (in_slot payload_in n) (deep path (r ∷ [])) (deep path l))
     ∙ last_of-append (given (in_slot payload_in n) (deep path (r ∷ []))) (given (in_slot payload_in n) (deep path l))
 
--- before the first field there is none so far
-pub only_so_far : {A : Type 0} (o : Option A) → option_or o None ≡ o
-only_so_far o = sym (or_none o)
-
 last_none : (path : List ℕ) (n : ℕ) → last_at path n [] ≡ None
 unfolding last_at
 last_none [] n = refl
 last_none (m ∷ path) n = last_none path n
 
--- and behind the last it is the last of all
-pub nothing_left : (path : List ℕ) (n : ℕ) (o : Option (List ℕ)) → o ≡ option_or (last_at path n []) o
-nothing_left path n o = ap (λ x. option_or x o) (sym (last_none path n))
-
--- a field that has one has the last so far
-pub last_here : (path : List ℕ) (n : ℕ) (r : WireField) (l : List WireField) (before : Option (List ℕ)) (p : List ℕ) → Some p ≡ last_at path n (r ∷ []) →
-    option_or (last_at path n l) (Some p) ≡ option_or (last_at path n (r ∷ l)) before
-last_here path n r l before p e =
-    ap (option_or (last_at path n l)) (ap (λ o. option_or o before) e) ∙ sym (or_apart (last_at path n l) (last_at path n (r ∷ [])) before) ∙ ap (λ o. option_or o before) (sym (last_more path n r l))
-
--- and one that has none leaves it
-pub last_later : (path : List ℕ) (n : ℕ) (r : WireField) (l : List WireField) (before : Option (List ℕ)) → None ≡ last_at path n (r ∷ []) →
-    option_or (last_at path n l) before ≡ option_or (last_at path n (r ∷ l)) before
-last_later path n r l before e = ap (λ o. option_or o before) (or_none (last_at path n l) ∙ ap (option_or (last_at path n l)) e ∙ sym (last_more path n r l))
-
-pub other_number : (path : List ℕ) (n : ℕ) (r : WireField) → 1 ≤ length path → (r.number ≡ get_or path 0 0 → ⊥) → last_at path n (r ∷ []) ≡ None
+-- ---- one field
+pub last_here : (n : ℕ) (r : WireField) → in_slot payload_in n r ≡ last_at [] n (r ∷ [])
 unfolding last_at
-other_number [] n r le off = absurd (omega arith)
-other_number (m ∷ path) n r le off = rw (ne_eqb r.number m off) (last_none path n)
+last_here n r = each (in_slot payload_in n r)
+  where
+    each : (o : Option (List ℕ)) → o ≡ last_of (option_case o [] (λ x. x ∷ []))
+    each None = refl
+    each (Some p) = refl
 
-no_cond : {A : Type 0} (b : Bool) (o : Option A) → o ≡ None → cond b o None ≡ None
-no_cond true o e = e
-no_cond false o e = refl
-
-pub no_payload : (path : List ℕ) (n : ℕ) (r : WireField) → payload_in r.value ≡ None → last_at path n (r ∷ []) ≡ None
+pub last_inside : (slot : ℕ) (path : List ℕ) (n : ℕ) (r : WireField) → within path n (in_slot payload_in slot r) ≡ last_at (slot ∷ path) n (r ∷ [])
 unfolding last_at
-no_payload [] n r e = rw (no_cond (eqb r.number n) (payload_in r.value) e) refl
-no_payload (m ∷ path) n r e = rw (no_cond (eqb r.number m) (payload_in r.value) e) (last_none path n)
+last_inside slot path n r = each (in_slot payload_in slot r)
+  where
+    each : (o : Option (List ℕ)) → within path n o ≡ last_of (given (in_slot payload_in n) (deep path (flat_map fields (option_case o [] (λ x. x ∷ [])))))
+    each None = sym (last_none path n)
+    each (Some p) = ap (λ l. last_of (given (in_slot payload_in n) (deep path l))) (sym (append-nil (fields p)))
+
+pub other_slot : (slot : ℕ) (r : WireField) → (r.number ≡ slot → ⊥) → None ≡ in_slot payload_in slot r
+other_slot slot r off = rw (ne_eqb r.number slot off) refl
+
+-- ---- a walk along fields: the last of what is left, or else the last so far, is the last of all
+module _ (path : List ℕ) (n : ℕ) where
+  abbrev walked : List (Result PlacedField WireFault) → Option (List ℕ) → Option (List ℕ)
+  walked left so_far = option_or (last_at path n (whole_fields left)) so_far
+
+  pub walk_starts : (s : Remaining) (bytes : List ℕ) (so_far : Option (List ℕ)) → s ≡ record { whole = bytes; left = placed_fields bytes } → walked s.left so_far ≡ option_or (last_at path n (fields bytes)) so_far
+  unfolding fields
+  walk_starts s bytes so_far e = ap (λ (x : Remaining). walked x.left so_far) e
+
+  pub walk_steps : (left rest : List (Result PlacedField WireFault)) (r : PlacedField) (m before after all : Option (List ℕ)) → left ≡ Ok r ∷ rest → m ≡ last_at path n (r.field ∷ []) → after ≡ option_or m before →
+      walked left before ≡ all → walked rest after ≡ all
+  walk_steps left rest r m before after all e is new h =
+      ap (walked rest) (new ∙ ap (λ o. option_or o before) is) ∙ sym (or_apart (last_at path n (whole_fields rest)) (last_at path n (r.field ∷ [])) before)
+      ∙ ap (λ o. option_or o before) (sym (last_more path n r.field (whole_fields rest))) ∙ ap (λ l. walked l before) (sym e) ∙ h
+
+  walk_stops : (left : List (Result PlacedField WireFault)) (so_far all : Option (List ℕ)) → whole_fields left ≡ [] → walked left so_far ≡ all → so_far ≡ all
+  walk_stops left so_far all e h = ap (λ o. option_or o so_far) (sym (last_none path n) ∙ ap (last_at path n) (sym e)) ∙ h
+
+  pub walk_ends : (left : List (Result PlacedField WireFault)) (so_far all : Option (List ℕ)) → left ≡ [] → walked left so_far ≡ all → so_far ≡ all
+  walk_ends left so_far all e = walk_stops left so_far all (ap whole_fields e)
+
+  pub walk_faults : (left rest : List (Result PlacedField WireFault)) (fault : WireFault) (so_far all : Option (List ℕ)) → left ≡ Err fault ∷ rest → walked left so_far ≡ all → so_far ≡ all
+  walk_faults left rest fault so_far all e = walk_stops left so_far all (ap whole_fields e)
+
+pub only_so_far : {A : Type 0} (o : Option A) → option_or o None ≡ o
+only_so_far o = sym (or_none o)
+
+pub copied_or : (a b : Option (Bor (List ℕ))) → option_copied (option_or a b) ≡ option_or (option_copied a) (option_copied b)
+copied_or None b = refl
+copied_or (Some x) b = refl

@@ -1,13 +1,13 @@
 //! The ids of an entity.
-ghost use Rattle.std.specs.Prelude.{◌≡◌, IfOk, option_map};
+ghost use Rattle.std.specs.Prelude.{◌≡◌, IfOk, option_copied, option_map};
 ghost use Rattle.feed_values.specs.Meaning.{fields};
 ghost use Rattle.feed_values.specs.Snapshot.{entity_of};
 ghost use Rattle.rule_core.specs.Judged.{update_of};
 ghost use Rattle.rule_core.specs.Pairs.{vehicle_of};
 ghost use Rattle.entity_ids.specs.Ids.{ids_at, update_ids, vehicle_ids};
-ghost use Rattle.entity_ids.specs.Paths as paths;
 
 use crate::paths::last_at;
+use crate::slot_ids::SlotIds;
 use feed_values::Text;
 use std::alloc::{AllocError, Global};
 use std::str;
@@ -19,15 +19,9 @@ const TRIP_UPDATE: u32 = 3;
 
 const VEHICLE: u32 = 4;
 
-const TRIP: u32 = 1;
-
 const VEHICLE_OF_UPDATE: u32 = 3;
 
 const VEHICLE_OF_POSITION: u32 = 8;
-
-const TRIP_ID: u32 = 1;
-
-const VEHICLE_ID: u32 = 1;
 
 /// The ids by which a trip update or a vehicle position is paired.
 #[derive(Debug, Drop)]
@@ -48,18 +42,13 @@ fn text_of(alloc: Global, bytes: &[u8]) -> Result<Text, AllocError>
     Ok(text)
 }
 
-// The last text of slot `number` at a path of slots.
-fn text_at(
-    alloc: Global,
-    payload: &[u8],
-    path: &[u32],
-    number: u32,
-) -> Result<Option<Text>, AllocError>
-    ensures { IfOk result (λ text. text ≡ paths.last_at path.now number (fields payload.now)) }
+// The text of bytes that may be given.
+fn text_given(alloc: Global, bytes: Option<&[u8]>) -> Result<Option<Text>, AllocError>
+    ensures { IfOk result (λ text. text ≡ option_copied bytes.entry) }
 {
-    match last_at(payload, path, number) {
-        None => Ok(None),
+    match bytes {
         Some(bytes) => Ok(Some(text_of(alloc, bytes)?)),
+        None => Ok(None),
     }
 }
 
@@ -69,8 +58,8 @@ fn text_at(
 pub fn entity_id(alloc: Global, payload: &[u8]) -> Result<Text, AllocError>
     ensures { IfOk result (λ id. id ≡ (entity_of payload.now).0) }
 {
-    match text_at(alloc, payload, &[], ENTITY_ID)? {
-        Some(id) => Ok(id),
+    match last_at(payload, ENTITY_ID) {
+        Some(id) => text_of(alloc, id),
         None => Ok(Text::new(alloc)),
     }
 }
@@ -79,11 +68,12 @@ pub fn entity_id(alloc: Global, payload: &[u8]) -> Result<Text, AllocError>
 fn ids_at(alloc: Global, payload: &[u8], slot: u32, vehicle: u32) -> Result<Option<Ids>, AllocError>
     ensures { IfOk result (λ ids. ids ≡ ids_at slot vehicle (fields payload.now)) }
 {
-    match last_at(payload, &[], slot) {
+    let found = SlotIds::at(payload, slot, vehicle);
+    match found.payload {
         None => Ok(None),
         Some(_) => {
-            let trip = text_at(alloc, payload, &[slot, TRIP], TRIP_ID)?;
-            let vehicle = text_at(alloc, payload, &[slot, vehicle], VEHICLE_ID)?;
+            let trip = text_given(alloc, found.trip)?;
+            let vehicle = text_given(alloc, found.vehicle)?;
             Ok(Some(Ids { trip, vehicle }))
         }
     }

@@ -1,52 +1,33 @@
-//! The last payload of a slot, at a path of slots, without taking memory.
-ghost use Rattle.std.specs.Prelude.{◌≡◌, ◌∷◌, [], option_copied};
+//! The last payload of a slot, without taking memory.
+ghost use Rattle.std.specs.Prelude.{◌≡◌, [], option_copied};
 ghost use Rattle.rt_wire.specs.Placed.{placed_field};
-ghost use Rattle.feed_values.specs.Meaning.{fields};
+ghost use Rattle.feed_values.specs.Meaning.{fields, in_slot, payload_in};
 ghost use Rattle.entity_ids.specs.Paths as paths;
 
 use rt_wire::{Fields, RawField, RawValue};
 
-/// The last payload of slot `number`, in the messages at a path from one field on.
-#[cycle(last_at)]
-#[tactic(auto, unfolding(crate::specs::Paths::last_at))]
-fn last_in<'a>(field: RawField<'a>, path: &[u32], number: u32) -> Option<&'a [u8]>
-    ensures { option_copied result ≡ paths.last_at path.now number ((placed_field field.entry).field ∷ []) }
+/// The payload of a field, where it is of slot `number`.
+pub fn payload_of<'a>(field: &RawField<'a>, number: u32) -> Option<&'a [u8]>
+    ensures { option_copied result ≡ in_slot payload_in number (placed_field field.now).field }
 {
-    let RawValue::Len(payload) = field.value else {
+    if field.number != number {
         return None;
-    };
-    match path {
-        [] => {
-            if field.number == number {
-                Some(payload)
-            } else {
-                None
-            }
-        }
-        [first, rest @ ..] => {
-            if field.number == *first {
-                last_at(payload, rest, number)
-            } else {
-                None
-            }
-        }
+    }
+    match field.value {
+        RawValue::Len(payload) => Some(payload),
+        _ => None,
     }
 }
 
-/// The last payload of slot `number`, in the messages at a path of slots. Behind a fault nothing is read.
-#[cycle(last_at)]
-pub fn last_at<'a>(bytes: &'a [u8], path: &[u32], number: u32) -> Option<&'a [u8]>
-    ensures { option_copied result ≡ paths.last_at path.now number (fields bytes.now) }
+/// The last payload of slot `number` of a message. Behind a fault nothing is read.
+pub fn last_at<'a>(bytes: &'a [u8], number: u32) -> Option<&'a [u8]>
+    ensures { option_copied result ≡ paths.last_at [] number (fields bytes.now) }
 {
     let mut last = None;
     let mut fields = Fields::new(bytes);
     while let Some(field) = fields.next() {
         match field {
-            Ok(field) => {
-                if let Some(payload) = last_in(field, path, number) {
-                    last = Some(payload);
-                }
-            }
+            Ok(field) => last = payload_of(&field, number).or(last),
             Err(_) => return last,
         }
     }

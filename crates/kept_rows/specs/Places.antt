@@ -5,7 +5,11 @@ use Rattle.feed_values.specs.Messages.{entity}
 use Rattle.feed_values.specs.Snapshot.{entities_of, entity_of, entity_payloads}
 use Rattle.rule_core.specs.declared.key.EntityKey.{EntityKey}
 use Rattle.rule_core.specs.Groups.{Each}
-use Rattle.judging.specs.Seats.{Seat, seats}
+use Rattle.judging.specs.Seats.{Seat, id_of, seats}
+
+-- the key of an entity before which a number of others with its id stand
+abbrev pub key_of : ℕ → Value entity → ℕ → EntityKey
+key_of feed e before = record { feed = feed; id = id_of e; occurrence = before }
 
 -- numbers of entities under keys
 abbrev pub Places : Type 0

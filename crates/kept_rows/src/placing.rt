@@ -1,6 +1,10 @@
 //! The entities of a kept snapshot under their keys, by their numbers.
-ghost use Rattle.std.specs.Prelude.{IfOk};
-ghost use Rattle.kept_rows.specs.Places.{ArePlaces};
+ghost use Rattle.std.specs.Prelude.{◌≡◌, ◌+◌, List, ℕ, IfOk, OnOk, not, is_some, bytes_eq, if◌then◌else◌};
+ghost use Rattle.std.specs.BTreeMap.{get, insert_entry};
+ghost use Rattle.feed_values.specs.Snapshot.{entity_of};
+ghost use Rattle.rule_core.specs.Order.{key_cmp};
+ghost use Rattle.judging.specs.Seats.{count_in, id_of};
+ghost use Rattle.kept_rows.specs.Places.{ArePlaces, key_of};
 
 use entity_ids::entity_id;
 use feed_stream::Kept;
@@ -8,6 +12,50 @@ use judging::count_one;
 use rule_core::EntityKey;
 use std::alloc::{AllocError, Global};
 use std::collections::BTreeMap;
+use std::collections::btree_map::Entry;
+
+/// Puts a number in under a key, unless one is there, and answers whether it did.
+fn put_new(
+    places: &mut BTreeMap<EntityKey, usize>,
+    key: EntityKey,
+    place: usize,
+) -> Result<bool, AllocError>
+    ensures is_new { IfOk result (λ put. put ≡ not (is_some (get key_cmp places.old key))) }
+    ensures entries { IfOk result (λ put. places.new.entries ≡ (if put then insert_entry key_cmp places.old.entries key place else places.old.entries)) }
+{
+    match places.entry(key)? {
+        Entry::Vacant(entry) => {
+            entry.insert(place);
+            Ok(true)
+        }
+        Entry::Occupied(_) => Ok(false),
+    }
+}
+
+/// Puts in the number of an entity whose id stands under its first key already, and counts it among the others of that id.
+fn put_other(
+    alloc: Global,
+    feed: u8,
+    entity: &[u8],
+    others: &mut BTreeMap<String, u32>,
+    places: &mut BTreeMap<EntityKey, usize>,
+    place: usize,
+) -> Result<(), AllocError>
+    ensures entries { OnOk result (places.new.entries ≡ insert_entry key_cmp places.old.entries (key_of feed (entity_of entity.now) (count_in others.old (id_of (entity_of entity.now)) + 1)) place) }
+    ensures counted { OnOk result ((id : List ℕ) → count_in others.new id ≡ (if bytes_eq (id_of (entity_of entity.now)) id then 1 else 0) + count_in others.old id) }
+{
+    let id = entity_id(alloc, entity)?;
+    let Some(occurrence) = count_one(alloc, others, id.as_str())?.checked_add(1) else {
+        return Err(AllocError);
+    };
+    let key = EntityKey {
+        feed,
+        id,
+        occurrence,
+    };
+    places.insert(key, place)?;
+    Ok(())
+}
 
 /// The entities of a kept snapshot of a feed under their keys, in the order of their keys, each by its number from 0.
 ///
@@ -19,17 +67,19 @@ pub fn places(
 ) -> Result<BTreeMap<EntityKey, usize>, AllocError>
     ensures { IfOk result (λ places. ArePlaces feed kept.now places.entries) }
 {
-    let mut counts = BTreeMap::new(alloc);
+    // Most ids stand once. Only those that come again are counted.
+    let mut others = BTreeMap::new(alloc);
     let mut places = BTreeMap::new(alloc);
     for place in 0..kept.len() {
-        let id = entity_id(alloc, kept.entity(place))?;
-        let occurrence = count_one(alloc, &mut counts, id.as_str())?;
-        let key = EntityKey {
+        let entity = kept.entity(place);
+        let first = EntityKey {
             feed,
-            id,
-            occurrence,
+            id: entity_id(alloc, entity)?,
+            occurrence: 0,
         };
-        places.insert(key, place)?;
+        if !put_new(&mut places, first, place)? {
+            put_other(alloc, feed, entity, &mut others, &mut places, place)?;
+        }
     }
     Ok(places)
 }

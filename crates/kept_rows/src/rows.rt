@@ -1,5 +1,5 @@
 //! The pairing rows of a kept snapshot.
-ghost use Rattle.std.specs.Prelude.{◌≡◌, ◌<◌, Option, IfOk, length};
+ghost use Rattle.std.specs.Prelude.{◌≡◌, ◌<◌, Option, Some, IfOk, length};
 ghost use Rattle.feed_values.specs.Snapshot.{entity_of, entity_payloads};
 ghost use Rattle.timetable.specs.Timetables.{Tables};
 ghost use Rattle.rule_core.specs.Answered.{Heads};
@@ -26,31 +26,26 @@ fn ids_of(alloc: Global, kind: Kind, payload: &[u8]) -> Result<Option<Ids>, Allo
     }
 }
 
-// Puts in the row with these ids, where there is one.
+// Puts in the row with these ids.
 fn add_row(
     alloc: Global,
     index: PairIndex,
     kind: Kind,
     key: &EntityKey,
-    ids: Option<Ids>,
+    ids: Ids,
 ) -> Result<PairIndex, AllocError>
-    ensures { IfOk result (λ next. next ≡ put_rows index (ids_rows kind key.now ids)) }
+    ensures { IfOk result (λ next. next ≡ put_rows index (ids_rows kind key.now (Some ids))) }
 {
-    match ids {
-        None => Ok(index),
-        Some(ids) => {
-            let id = key.id.clone(alloc)?;
-            let next = index.add(PairRow {
-                kind,
-                feed: key.feed,
-                id,
-                occurrence: key.occurrence,
-                trip: ids.trip,
-                vehicle: ids.vehicle,
-            })?;
-            Ok(next)
-        }
-    }
+    let id = key.id.clone(alloc)?;
+    let next = index.add(PairRow {
+        kind,
+        feed: key.feed,
+        id,
+        occurrence: key.occurrence,
+        trip: ids.trip,
+        vehicle: ids.vehicle,
+    })?;
+    Ok(next)
 }
 
 // Puts in the rows of one kind.
@@ -66,8 +61,9 @@ fn add_rows(
 {
     let mut index = index;
     for (key, place) in places {
-        let ids = ids_of(alloc, kind, kept.entity(*place))?;
-        index = add_row(alloc, index, kind, key, ids)?;
+        if let Some(ids) = ids_of(alloc, kind, kept.entity(*place))? {
+            index = add_row(alloc, index, kind, key, ids)?;
+        }
     }
     Ok(index)
 }

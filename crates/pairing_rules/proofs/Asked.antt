@@ -47,14 +47,14 @@ of-feed false true true = refl
 of-feed false true false = refl
 of-feed false false f = refl
 
-module _ (rows : List PairRow) (trips vehicles : Numbers) (s t u : BTreeSet Entry) (i : AreIndexed rows trips vehicles s t u) (next_trip next_vehicle : ℕ) (a : AreApart trips next_trip) (b : AreApart vehicles next_vehicle) where
+module _ (rows : List PairRow) (trips vehicles : Numbers) (s t u : BTreeSet Entry) (i : AreIndexed rows trips vehicles s t u) (last_trip last_vehicle : ℕ) (a : AreApart trips last_trip) (b : AreApart vehicles last_vehicle) where
   pub trip-asked : (trip : List ℕ) (n : ℕ) → trips trip ≡ Some n → (k : Kind) → (list_any (λ _. true) (seen_at s n k) || list_any (λ _. true) (seen_at t n k)) ≡ has_trip rows k trip
   trip-asked trip n h k =
       let p = belongs (paired_number trips) n k in
       let q = belongs (unpaired_number trips) n k in
       ap (λ x. list_any (λ _. true) x || list_any (λ _. true) (seen_at t n k)) (i.paired_under n k) ∙ ap (λ x. list_any (λ _. true) (map shown (filter p rows)) || list_any (λ _. true) x) (i.unpaired_under n k)
       ∙ ap (λ x. x || list_any (λ _. true) (map shown (filter q rows))) (any-all p rows) ∙ ap (λ x. list_any p rows || x) (any-all q rows) ∙ any-or p q rows
-      ∙ any-same _ (λ r. is_of k r && is_id trip r.trip) (λ r. halves n (number_of trips r.trip) r.vehicle (is_of k r) ∙ ap (λ x. is_of k r && x) (number-id trips next_trip a trip n h r.trip)) rows
+      ∙ any-same _ (λ r. is_of k r && is_id trip r.trip) (λ r. halves n (number_of trips r.trip) r.vehicle (is_of k r) ∙ ap (λ x. is_of k r && x) (number-id trips last_trip a trip n h r.trip)) rows
 
   pub trip-unasked : (trip : List ℕ) → trips trip ≡ None → (k : Kind) → has_trip rows k trip ≡ false
   trip-unasked trip h k = any-none _ rows (all-then _ _ (λ r g. ap (λ x. is_of k r && x) (unnamed trips trip h r.trip g) ∙ and-false (is_of k r)) rows i.trips_named)
@@ -62,7 +62,7 @@ module _ (rows : List PairRow) (trips vehicles : Numbers) (s t u : BTreeSet Entr
   pub vehicle-asked : (vehicle : List ℕ) (n : ℕ) → vehicles vehicle ≡ Some n → (k : Kind) → list_any (λ _. true) (seen_at u n k) ≡ has_vehicle rows k vehicle
   vehicle-asked vehicle n h k =
       ap (list_any (λ _. true)) (i.vehicles_under n k) ∙ any-all (belongs (vehicle_number vehicles) n k) rows
-      ∙ any-same _ (λ r. is_of k r && is_id vehicle r.vehicle) (λ r. swap (is_number n (number_of vehicles r.vehicle)) (is_of k r) ∙ ap (λ x. is_of k r && x) (number-id vehicles next_vehicle b vehicle n h r.vehicle)) rows
+      ∙ any-same _ (λ r. is_of k r && is_id vehicle r.vehicle) (λ r. swap (is_number n (number_of vehicles r.vehicle)) (is_of k r) ∙ ap (λ x. is_of k r && x) (number-id vehicles last_vehicle b vehicle n h r.vehicle)) rows
 
   pub vehicle-unasked : (vehicle : List ℕ) → vehicles vehicle ≡ None → (k : Kind) → has_vehicle rows k vehicle ≡ false
   vehicle-unasked vehicle h k = any-none _ rows (all-then _ _ (λ r g. ap (λ x. is_of k r && x) (unnamed vehicles vehicle h r.vehicle g) ∙ and-false (is_of k r)) rows i.vehicles_named)
@@ -87,7 +87,7 @@ module _ (rows : List PairRow) (trips vehicles : Numbers) (s t u : BTreeSet Entr
       ap (λ x. option_and_then vehicle_in (find (λ _. true) x)) (i.paired_under n k)
       ∙ ap (option_and_then vehicle_in) (sym (find-seen shown p (λ _. true) rows)) ∙ vehicle-shown (find (λ r. p r && true) rows)
       ∙ ap (option_and_then (λ r. r.vehicle)) (find-same (λ r. p r && true) (λ r. is_of k r && is_id trip r.trip && is_some r.vehicle) (λ r. given-first n (number_of trips r.trip) r.vehicle (is_of k r)
-      ∙ ap (λ x. is_of k r && x && is_some r.vehicle) (number-id trips next_trip a trip n h r.trip)) rows)
+      ∙ ap (λ x. is_of k r && x && is_some r.vehicle) (number-id trips last_trip a trip n h r.trip)) rows)
 
   pub first-vehicle-unasked : (trip : List ℕ) → trips trip ≡ None → (k : Kind) → first_vehicle rows k trip ≡ None
   first-vehicle-unasked trip h k =
@@ -99,7 +99,7 @@ module _ (rows : List PairRow) (trips vehicles : Numbers) (s t u : BTreeSet Entr
       ap (λ x. option_and_then key_in (find (λ y. y.feed == feed) x)) (i.vehicles_under n Vehicle)
       ∙ ap (option_and_then key_in) (sym (find-seen shown p (λ y. y.feed == feed) rows)) ∙ key-shown (find (λ r. p r && (r.key.feed == feed)) rows)
       ∙ ap (option_map (λ r. r.key)) (find-same _ (λ r. is_of Vehicle r && (r.key.feed == feed) && is_id vehicle r.vehicle) (λ r. of-feed (is_number n (number_of vehicles r.vehicle)) (is_of Vehicle r) (r.key.feed == feed)
-      ∙ ap (λ x. is_of Vehicle r && (r.key.feed == feed) && x) (number-id vehicles next_vehicle b vehicle n h r.vehicle)) rows)
+      ∙ ap (λ x. is_of Vehicle r && (r.key.feed == feed) && x) (number-id vehicles last_vehicle b vehicle n h r.vehicle)) rows)
 
   pub first-key-unasked : (vehicle : List ℕ) → vehicles vehicle ≡ None → (feed : ℕ) → first_key rows feed vehicle ≡ None
   first-key-unasked vehicle h feed =

@@ -1,5 +1,5 @@
 -- Numbers of texts, before and after one more text got one.
-use Rattle.std.proofs.Common.{◌≡◌, ◌<◌, ◌+◌, ℕ, Bool, true, false, cond, List, Option, Some, None, is_some, ◌==◌, refl, sym, ◌∙◌, ap, subst, arith}
+use Rattle.std.proofs.Common.{◌≡◌, ◌<◌, ◌≤◌, ◌+◌, ◌^◌, ℕ, Bool, true, false, cond, List, Option, Some, None, is_some, ◌==◌, refl, sym, ◌∙◌, ap, subst, arith}
 use Rattle.std.specs.Prelude.{bytes_eq, option_map, option_and_then}
 use Rattle.std.proofs.lemmas.Bool.Decides.{nat_tests}
 use Rattle.std.proofs.lemmas.Slice.Eq.{bytes_eq-Decides}
@@ -8,21 +8,27 @@ use Rattle.pairing_rules.specs.declared.seat.Seat.{Seat}
 use Rattle.pairing_rules.specs.Seats.{seat_in, seat_of}
 use Rattle.rule_core.specs.Pairs.{PairRow, is_id}
 
-pub given-next : (number new : List ℕ → Option ℕ) (next after : ℕ) (text : List ℕ) → AreApart number next → after ≡ next + 1 → ((other : List ℕ) → new other ≡ cond (bytes_eq text other) (Some next) (number other)) → AreApart new after
-given-next number new next after text a e u = record {
-  below = λ t n h. below-by t n (bytes_eq text t) (sym (u t) ∙ h);
-  apart = λ t o n h k. apart-by t o n (bytes_eq text t) (bytes_eq text o) refl refl (sym (u t) ∙ h) (sym (u o) ∙ k);
+-- n is the number of the text from then on
+pub given-next : (number new : List ℕ → Option ℕ) (last n : ℕ) (text : List ℕ) → AreApart number last → n + 1 ≡ last → last < 2 ^ 32 → ((other : List ℕ) → new other ≡ cond (bytes_eq text other) (Some n) (number other)) → AreApart new n
+given-next number new last n text a step l u = record {
+  from_last = λ t m h. from-by t m (bytes_eq text t) (sym (u t) ∙ h);
+  below = λ t m h. below-by t m (bytes_eq text t) (sym (u t) ∙ h);
+  apart = λ t o m h k. apart-by t o m (bytes_eq text t) (bytes_eq text o) refl refl (sym (u t) ∙ h) (sym (u o) ∙ k);
 }
   where
-    below-by : (t : List ℕ) (n : ℕ) (b : Bool) → cond b (Some next) (number t) ≡ Some n → n < after
-    below-by t n true h = let s : next ≡ n = cc in grind arith
-    below-by t n false h = let l = a.below t n h in grind arith
+    from-by : (t : List ℕ) (m : ℕ) (b : Bool) → cond b (Some n) (number t) ≡ Some m → n ≤ m
+    from-by t m true h = let s : n ≡ m = cc in grind arith
+    from-by t m false h = let k = a.from_last t m h in grind arith
 
-    apart-by : (t o : List ℕ) (n : ℕ) (b c : Bool) → bytes_eq text t ≡ b → bytes_eq text o ≡ c → cond b (Some next) (number t) ≡ Some n → cond c (Some next) (number o) ≡ Some n → t ≡ o
-    apart-by t o n true true e f h k = sym ((bytes_eq-Decides text t).0 e) ∙ (bytes_eq-Decides text o).0 f
-    apart-by t o n true false e f h k = let l = a.below o n k in let s : next ≡ n = cc in grind arith
-    apart-by t o n false true e f h k = let l = a.below t n h in let s : next ≡ n = cc in grind arith
-    apart-by t o n false false e f h k = a.apart t o n h k
+    below-by : (t : List ℕ) (m : ℕ) (b : Bool) → cond b (Some n) (number t) ≡ Some m → m + 1 < 2 ^ 32
+    below-by t m true h = let s : n ≡ m = cc in grind arith
+    below-by t m false h = a.below t m h
+
+    apart-by : (t o : List ℕ) (m : ℕ) (b c : Bool) → bytes_eq text t ≡ b → bytes_eq text o ≡ c → cond b (Some n) (number t) ≡ Some m → cond c (Some n) (number o) ≡ Some m → t ≡ o
+    apart-by t o m true true e f h k = sym ((bytes_eq-Decides text t).0 e) ∙ (bytes_eq-Decides text o).0 f
+    apart-by t o m true false e f h k = let g = a.from_last o m k in let s : n ≡ m = cc in grind arith
+    apart-by t o m false true e f h k = let g = a.from_last t m h in let s : n ≡ m = cc in grind arith
+    apart-by t o m false false e f h k = a.apart t o m h k
 
 module _ (number new : Numbers) (next : ℕ) (text : List ℕ) where
   pub next-own : ((other : List ℕ) → new other ≡ cond (bytes_eq text other) (Some next) (number other)) → new text ≡ Some next
@@ -143,14 +149,14 @@ module _ (ids trips vehicles : Numbers) where
       ∙ ap (option_and_then (λ trip. option_map (seat_of r i trip) (numbered vehicles r.vehicle))) f ∙ ap (option_map (seat_of r i t)) g
 
   -- rows with one seat are one
-  pub seat-apart : (next_id next_trip next_vehicle : ℕ) → AreApart ids next_id → AreApart trips next_trip → AreApart vehicles next_vehicle
+  pub seat-apart : (last_id last_trip last_vehicle : ℕ) → AreApart ids last_id → AreApart trips last_trip → AreApart vehicles last_vehicle
       → (r q : PairRow) (s : Seat) → seat_in ids trips vehicles r ≡ Some s → seat_in ids trips vehicles q ≡ Some s → r ≡ q
-  seat-apart next_id next_trip next_vehicle a b c r q s h g =
+  seat-apart last_id last_trip last_vehicle a b c r q s h g =
       let x = seat-parts r s h in
       let y = seat-parts q s g in
       let same = x.3 ∙ sym y.3 in
       make (ap (λ z. z.kind) same) (ap (λ z. z.feed) same) (a.apart r.key.id q.key.id s.id x.0 y.0) (ap (λ z. z.occurrence) same)
-      (numbered-apart trips next_trip b r.trip q.trip s.trip x.1 y.1) (numbered-apart vehicles next_vehicle c r.vehicle q.vehicle s.vehicle x.2 y.2)
+      (numbered-apart trips last_trip b r.trip q.trip s.trip x.1 y.1) (numbered-apart vehicles last_vehicle c r.vehicle q.vehicle s.vehicle x.2 y.2)
     where
       make : r.kind ≡ q.kind → r.key.feed ≡ q.key.feed → r.key.id ≡ q.key.id → r.key.occurrence ≡ q.key.occurrence → r.trip ≡ q.trip → r.vehicle ≡ q.vehicle → r ≡ q
       make k f i o t v =

@@ -72,7 +72,7 @@ all-each P h (x ∷ xs) = (h x, all-each P h xs)
 pub kind-asked : (k : Kind) (es : List (Seat × Rc Held Global)) → list_any (λ s. same_kind s.kind k) (keys_of es) ≡ any_row (rows_of es) k
 kind-asked k es = sym (any-in-order (is_of k) (map row_at es) ∙ any-row-at (is_of k) (λ s. same_kind s.kind k) es (all-each _ (λ e. refl) es))
 
-module _ (ids trips vehicles : Numbers) (next_id next_trip next_vehicle : ℕ) (a : AreApart ids next_id) (b : AreApart trips next_trip) (c : AreApart vehicles next_vehicle) where
+module _ (ids trips vehicles : Numbers) (last_id last_trip last_vehicle : ℕ) (a : AreApart ids last_id) (b : AreApart trips last_trip) (c : AreApart vehicles last_vehicle) where
   pub pair-asked : (trip vehicle : List ℕ) (n m : ℕ) → trips trip ≡ Some n → vehicles vehicle ≡ Some m → (k : Kind) (es : List (Seat × Rc Held Global)) → AreSeated ids trips vehicles es
       → list_any (is_pair k n m) (keys_of es) ≡ has_pair (rows_of es) k trip vehicle
   pair-asked trip vehicle n m h g k es i =
@@ -81,11 +81,11 @@ module _ (ids trips vehicles : Numbers) (next_id next_trip next_vehicle : ℕ) (
       each : (e : Seat × Rc Held Global) → SeatedIn ids trips vehicles e → (is_of k (row_at e) && is_id trip (row_at e).trip && is_id vehicle (row_at e).vehicle) ≡ is_pair k n m e.0
       each e s =
           let x = seat-parts ids trips vehicles (row_at e) e.0 s in
-          ap (λ y. is_of k (row_at e) && y && is_id vehicle (row_at e).vehicle) (sym (number-id trips next_trip b trip n h (row_at e).trip) ∙ ap (is_number n) (numbered-is trips (row_at e).trip e.0.trip x.1))
-          ∙ ap (λ y. is_of k (row_at e) && is_number n e.0.trip && y) (sym (number-id vehicles next_vehicle c vehicle m g (row_at e).vehicle) ∙ ap (is_number m) (numbered-is vehicles (row_at e).vehicle e.0.vehicle x.2))
+          ap (λ y. is_of k (row_at e) && y && is_id vehicle (row_at e).vehicle) (sym (number-id trips last_trip b trip n h (row_at e).trip) ∙ ap (is_number n) (numbered-is trips (row_at e).trip e.0.trip x.1))
+          ∙ ap (λ y. is_of k (row_at e) && is_number n e.0.trip && y) (sym (number-id vehicles last_vehicle c vehicle m g (row_at e).vehicle) ∙ ap (is_number m) (numbered-is vehicles (row_at e).vehicle e.0.vehicle x.2))
 
   one-row : (r q : PairRow) (s : Seat) → seat_in ids trips vehicles r ≡ Some s → seat_in ids trips vehicles q ≡ Some s → r ≡ q
-  one-row r q s h g = seat-apart ids trips vehicles next_id next_trip next_vehicle a b c r q s h g
+  one-row r q s h g = seat-apart ids trips vehicles last_id last_trip last_vehicle a b c r q s h g
 
   inside : (s t : Seat) → Some s ≡ Some t → s ≡ t
   inside s t h = cc

@@ -107,7 +107,7 @@ halves : (n : ℕ) (m : Option ℕ) (v : Option (List ℕ)) (h : Bool) → ((is_
 halves n m None h = refl
 halves n m (Some v) h = or-nothing (is_number n m && h)
 
-module _ (rows : List PairRow) (trips vehicles : Numbers) (s t u : BTreeSet Entry) (i : AreIndexed rows trips vehicles s t u) (next_trip next_vehicle : ℕ) (a : AreApart trips next_trip) (b : AreApart vehicles next_vehicle) (key : EntityKey) where
+module _ (rows : List PairRow) (trips vehicles : Numbers) (s t u : BTreeSet Entry) (i : AreIndexed rows trips vehicles s t u) (last_trip last_vehicle : ℕ) (a : AreApart trips last_trip) (b : AreApart vehicles last_vehicle) (key : EntityKey) where
   trip-text-keys : (trip : List ℕ) (m : Option ℕ) → trips trip ≡ m → (has_given_key s m key || has_given_key t m key) ≡ list_any (λ r. is_id trip r.trip && same_key key r.key) rows
   trip-text-keys trip None h = sym (any-none _ rows (all-then (λ r. is_named trips r.trip ≡ true) _ (λ r g. ap (λ x. x && same_key key r.key) (unnamed trips trip h r.trip g)) rows i.trips_named))
   trip-text-keys trip (Some n) h =
@@ -115,7 +115,7 @@ module _ (rows : List PairRow) (trips vehicles : Numbers) (s t u : BTreeSet Entr
       let q : PairRow → Bool = λ r. is_number n (unpaired_number trips r) && same_key key r.key in
       ap (λ x. x || has_key_at t n key) (number-keys (paired_number trips) s rows i.paired_under key n) ∙ ap (λ x. list_any p rows || x) (number-keys (unpaired_number trips) t rows i.unpaired_under key n)
       ∙ any-or p q rows
-      ∙ any-same _ (λ r. is_id trip r.trip && same_key key r.key) (λ r. halves n (number_of trips r.trip) r.vehicle (same_key key r.key) ∙ ap (λ x. x && same_key key r.key) (number-id trips next_trip a trip n h r.trip)) rows
+      ∙ any-same _ (λ r. is_id trip r.trip && same_key key r.key) (λ r. halves n (number_of trips r.trip) r.vehicle (same_key key r.key) ∙ ap (λ x. x && same_key key r.key) (number-id trips last_trip a trip n h r.trip)) rows
 
   pub trip-keys : (id : Option (List ℕ)) → (has_given_key s (number_of trips id) key || has_given_key t (number_of trips id) key) ≡ list_any (λ r. shares_id id r.trip && same_key key r.key) rows
   trip-keys None = none-false rows
@@ -125,7 +125,7 @@ module _ (rows : List PairRow) (trips vehicles : Numbers) (s t u : BTreeSet Entr
   vehicle-text-keys vehicle None h = sym (any-none _ rows (all-then (λ r. is_named vehicles r.vehicle ≡ true) _ (λ r g. ap (λ x. x && same_key key r.key) (unnamed vehicles vehicle h r.vehicle g)) rows i.vehicles_named))
   vehicle-text-keys vehicle (Some n) h =
       number-keys (vehicle_number vehicles) u rows i.vehicles_under key n
-      ∙ any-same _ (λ r. is_id vehicle r.vehicle && same_key key r.key) (λ r. ap (λ x. x && same_key key r.key) (number-id vehicles next_vehicle b vehicle n h r.vehicle)) rows
+      ∙ any-same _ (λ r. is_id vehicle r.vehicle && same_key key r.key) (λ r. ap (λ x. x && same_key key r.key) (number-id vehicles last_vehicle b vehicle n h r.vehicle)) rows
 
   pub vehicle-keys : (id : Option (List ℕ)) → has_given_key u (number_of vehicles id) key ≡ list_any (λ r. shares_id id r.vehicle && same_key key r.key) rows
   vehicle-keys None = none-false rows

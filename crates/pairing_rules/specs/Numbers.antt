@@ -1,5 +1,5 @@
 -- Numbers of ids.
-use Rattle.std.specs.Prelude.{◌≡◌, ◌<◌, ◌==◌, ℕ, Bool, true, false, List, Option, Some, None, option_and_then, option_map, is_some}
+use Rattle.std.specs.Prelude.{◌≡◌, ◌<◌, ◌≤◌, ◌+◌, ◌^◌, ◌==◌, ℕ, Bool, true, false, List, Option, Some, None, option_and_then, option_map, is_some}
 
 abbrev pub Numbers : Type 0
 Numbers = List ℕ → Option ℕ
@@ -31,7 +31,8 @@ abbrev pub where_missing : {A : Type 0} → Option A → Option ℕ → Option �
 where_missing None n = n
 where_missing (Some x) n = None
 
--- each number is of one text, and below the next one that is given
-pub record AreApart (number : List ℕ → Option ℕ) (next : ℕ) : Type 0 where
-  pub below : (text : List ℕ) (n : ℕ) → number text ≡ Some n → n < next
+-- each number is of one text, and none is below the last one that was given
+pub record AreApart (number : List ℕ → Option ℕ) (last : ℕ) : Type 0 where
+  pub from_last : (text : List ℕ) (n : ℕ) → number text ≡ Some n → last ≤ n
+  pub below : (text : List ℕ) (n : ℕ) → number text ≡ Some n → n + 1 < 2 ^ 32
   pub apart : (text other : List ℕ) (n : ℕ) → number text ≡ Some n → number other ≡ Some n → text ≡ other

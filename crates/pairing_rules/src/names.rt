@@ -1,17 +1,18 @@
 //! Numbers for texts.
-ghost use Rattle.std.specs.Prelude.{◌≡◌, ◌+◌, ◌<◌, ◌^◌, ℕ, List, Some, None, IfOk, IfSome, option_copied, option_and_then, true};
+ghost use Rattle.std.specs.Prelude.{◌≡◌, ◌+◌, ◌<◌, ◌^◌, ℕ, List, Some, None, IfOk, OnOk, IfSome, option_copied, option_and_then, true};
 ghost use Rattle.std.specs.HashMap.{get_by_text};
 ghost use Rattle.pairing_rules.specs.Numbers.{AreApart, is_named};
 
 use std::alloc::{AllocError, Global};
 use std::collections::HashMap;
 
-/// Texts by number: each text that was given a number has one of its own from then on.
+/// Texts by number: each text that was given a number has one of its own from then on. Numbers go down: an ordered set is
+/// searched from its front, and there the rows of a new text then stand.
 #[derive(Drop)]
 pub(crate) struct Names {
     numbers: HashMap<String, u32>,
-    next: u32,
-    ghost apart: { AreApart (get_by_text numbers) next },
+    last: u32,
+    ghost apart: { AreApart (get_by_text numbers) last },
 }
 
 impl Names {
@@ -20,7 +21,7 @@ impl Names {
     {
         Names {
             numbers: HashMap::new(alloc),
-            next: 0,
+            last: u32::MAX,
         }
     }
 
@@ -32,12 +33,12 @@ impl Names {
     }
 
     /// The number of a text, which gets one where it has none.
-    pub fn give(self, alloc: Global, text: &str) -> Result<(Names, u32), AllocError>
-        ensures own { IfOk result (λ r. get_by_text r.0.numbers text.now ≡ Some r.1) }
-        ensures kept { IfOk result (λ r. (other : List ℕ) (n : ℕ) → get_by_text self.numbers other ≡ Some n → get_by_text r.0.numbers other ≡ Some n) }
+    pub fn give(&mut self, alloc: Global, text: &str) -> Result<u32, AllocError>
+        ensures own { IfOk result (λ n. get_by_text self.new.numbers text.now ≡ Some n) }
+        ensures kept { OnOk result ((other : List ℕ) (n : ℕ) → get_by_text self.old.numbers other ≡ Some n → get_by_text self.new.numbers other ≡ Some n) }
     {
         match self.number(text) {
-            Some(number) => Ok((self, number)),
+            Some(number) => Ok(number),
             None => self.give_next(alloc, text),
         }
     }
@@ -47,7 +48,7 @@ impl Names {
         ensures number { result ≡ option_and_then (get_by_text self.now.numbers) (option_copied text.entry) }
         ensures below { IfSome result (λ n. n + 1 < 2 ^ 32) }
     {
-        let _next = self.next;
+        let _last = self.last;
         match text {
             Some(text) => self.number(text),
             None => None,
@@ -56,39 +57,30 @@ impl Names {
 
     /// The same, where a text that is given gets a number.
     pub fn give_given(
-        self,
+        &mut self,
         alloc: Global,
         text: Option<&str>,
-    ) -> Result<(Names, Option<u32>), AllocError>
-        ensures number { IfOk result (λ r. option_and_then (get_by_text r.0.numbers) (option_copied text.entry) ≡ r.1) }
-        ensures named { IfOk result (λ r. is_named (get_by_text r.0.numbers) (option_copied text.entry) ≡ true) }
-        ensures kept { IfOk result (λ r. (other : List ℕ) (n : ℕ) → get_by_text self.numbers other ≡ Some n → get_by_text r.0.numbers other ≡ Some n) }
+    ) -> Result<Option<u32>, AllocError>
+        ensures number { IfOk result (λ n. option_and_then (get_by_text self.new.numbers) (option_copied text.entry) ≡ n) }
+        ensures named { OnOk result (is_named (get_by_text self.new.numbers) (option_copied text.entry) ≡ true) }
+        ensures kept { OnOk result ((other : List ℕ) (n : ℕ) → get_by_text self.old.numbers other ≡ Some n → get_by_text self.new.numbers other ≡ Some n) }
     {
         match text {
-            Some(text) => {
-                let (names, number) = self.give(alloc, text)?;
-                Ok((names, Some(number)))
-            }
-            None => Ok((self, None)),
+            Some(text) => Ok(Some(self.give(alloc, text)?)),
+            None => Ok(None),
         }
     }
 
-    fn give_next(self, alloc: Global, text: &str) -> Result<(Names, u32), AllocError>
-        requires { get_by_text self.numbers text.now ≡ None }
-        ensures own { IfOk result (λ r. get_by_text r.0.numbers text.now ≡ Some r.1) }
-        ensures kept { IfOk result (λ r. (other : List ℕ) (n : ℕ) → get_by_text self.numbers other ≡ Some n → get_by_text r.0.numbers other ≡ Some n) }
+    fn give_next(&mut self, alloc: Global, text: &str) -> Result<u32, AllocError>
+        requires { get_by_text self.old.numbers text.now ≡ None }
+        ensures own { IfOk result (λ n. get_by_text self.new.numbers text.now ≡ Some n) }
+        ensures kept { OnOk result ((other : List ℕ) (n : ℕ) → get_by_text self.old.numbers other ≡ Some n → get_by_text self.new.numbers other ≡ Some n) }
     {
-        let Names { mut numbers, next } = self;
-        match next.checked_add(1) {
-            Some(after) => {
-                numbers.insert(String::from_str(alloc, text)?, next)?;
-                Ok((
-                    Names {
-                        numbers,
-                        next: after,
-                    },
-                    next,
-                ))
+        match self.last.checked_sub(1) {
+            Some(number) => {
+                self.numbers.insert(String::from_str(alloc, text)?, number)?;
+                self.last = number;
+                Ok(number)
             }
             None => Err(AllocError),
         }

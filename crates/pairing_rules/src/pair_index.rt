@@ -81,35 +81,17 @@ impl PairIndex {
         ensures rows { IfOk result (λ index. index ≡ insert_key row_cmp self (pair_row row)) }
         ensures ordered { IfOk result (λ index. IsStrictlySortedBy row_cmp index) }
     {
-        let PairIndex {
-            alloc,
-            mut seats,
-            ids,
-            trips,
-            vehicles,
-            mut paired,
-            mut unpaired,
-            mut by_vehicle,
-        } = self;
-        let (ids, id) = ids.give(alloc, row.id.as_str())?;
-        let (trips, trip) = trips.give_given(alloc, given(&row.trip))?;
-        let (vehicles, vehicle) = vehicles.give_given(alloc, given(&row.vehicle))?;
+        let mut index = self;
+        let id = index.ids.give(index.alloc, row.id.as_str())?;
+        let trip = index.trips.give_given(index.alloc, given(&row.trip))?;
+        let vehicle = index.vehicles.give_given(index.alloc, given(&row.vehicle))?;
         let seat = Seat::new(&row, id, trip, vehicle);
-        let held = Rc::new(alloc, Held::new(row))?;
-        put_given(&mut paired, seat.paired(), seat.kind, &held)?;
-        put_given(&mut unpaired, seat.unpaired(), seat.kind, &held)?;
-        put_given(&mut by_vehicle, seat.vehicle, seat.kind, &held)?;
-        seats.insert(seat, held)?;
-        Ok(PairIndex {
-            alloc,
-            seats,
-            ids,
-            trips,
-            vehicles,
-            paired,
-            unpaired,
-            by_vehicle,
-        })
+        let held = Rc::new(index.alloc, Held::new(row))?;
+        put_given(&mut index.paired, seat.paired(), seat.kind, &held)?;
+        put_given(&mut index.unpaired, seat.unpaired(), seat.kind, &held)?;
+        put_given(&mut index.by_vehicle, seat.vehicle, seat.kind, &held)?;
+        index.seats.insert(seat, held)?;
+        Ok(index)
     }
 
     /// Takes a row out. It takes no memory.

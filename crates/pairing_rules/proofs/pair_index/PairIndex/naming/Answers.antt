@@ -27,5 +27,5 @@ returns-clause-named c = λ key.
     ∙ ap (λ b. b || has_given_key old.unpaired c.number_given-trip.result key) (c.in_ok-put_given_keys.ensures key ∙ ap (λ ks. list_any (is_at (key_cmp key)) ks || has_given_key old.paired c.number_given-trip.result key) c.new-keys.ensures.empty))
     ∙ ap (λ n. (has_given_key old.paired n key || has_given_key old.unpaired n key) || has_given_key old.by_vehicle c.number_given-vehicle.result key) trip
     ∙ ap (λ n. (has_given_key old.paired (option_and_then trips row.trip) key || has_given_key old.unpaired (option_and_then trips row.trip) key) || has_given_key old.by_vehicle n key) vehicle
-    ∙ shared-keys (rows_of old.seats.entries) trips vehicles old.paired old.unpaired old.by_vehicle c.self.invariant.1 old.trips.next old.vehicles.next old.trips.apart old.vehicles.apart key row.trip row.vehicle
+    ∙ shared-keys (rows_of old.seats.entries) trips vehicles old.paired old.unpaired old.by_vehicle c.self.invariant.1 old.trips.last old.vehicles.last old.trips.apart old.vehicles.apart key row.trip row.vehicle
     ∙ ap (λ rows. list_any (λ r. shares row r && same_key key r.key) rows) c.self.view_is

@@ -27,15 +27,15 @@ invariant_of-self c =
     let vehicles = get_by_text old.vehicles.numbers in
     let at : seat_in ids trips vehicles row ≡ Some seat = sym c.in-Some.ensures in
     let same : row_at (seat, held) ≡ row =
-    seated-found ids trips vehicles old.ids.next old.trips.next old.vehicles.next old.ids.apart old.trips.apart old.vehicles.apart seat held row at es c.self.invariant.0 (sym c.in-Some-remove.ensures.value) in
+    seated-found ids trips vehicles old.ids.last old.trips.last old.vehicles.last old.ids.apart old.trips.apart old.vehicles.apart seat held row at es c.self.invariant.0 (sym c.in-Some-remove.ensures.value) in
     let parts = seat-parts ids trips vehicles row seat at in
     let trip : seat.trip ≡ number_of trips row.trip = sym (numbered-is trips row.trip seat.trip parts.1) in
     let vehicle : seat.vehicle ≡ number_of vehicles row.vehicle = sym (numbered-is vehicles row.vehicle seat.vehicle parts.2) in
     let paired : where_given seat.vehicle seat.trip ≡ paired_number trips row = given-beside vehicles row.vehicle seat.vehicle seat.trip parts.2 ∙ ap (where_given row.vehicle) trip in
     let unpaired : where_missing seat.vehicle seat.trip ≡ unpaired_number trips row = missing-beside vehicles row.vehicle seat.vehicle seat.trip parts.2 ∙ ap (where_missing row.vehicle) trip in (
-      rw c.remove.ensures.entries (seated-remove ids trips vehicles old.ids.next old.trips.next old.vehicles.next old.ids.apart old.trips.apart old.vehicles.apart (is_at (seat_cmp seat)) es c.self.invariant.0),
+      rw c.remove.ensures.entries (seated-remove ids trips vehicles old.ids.last old.trips.last old.vehicles.last old.ids.apart old.trips.apart old.vehicles.apart (is_at (seat_cmp seat)) es c.self.invariant.0),
       rw (ap rows_of c.remove.ensures.entries
-          ∙ rows-remove ids trips vehicles old.ids.next old.trips.next old.vehicles.next old.ids.apart old.trips.apart old.vehicles.apart seat row at es c.self.invariant.0 c.len-count.ensures.ordered) (record {
+          ∙ rows-remove ids trips vehicles old.ids.last old.trips.last old.vehicles.last old.ids.apart old.trips.apart old.vehicles.apart seat row at es c.self.invariant.0 c.len-count.ensures.ordered) (record {
             paired_under = under-taken (paired_number trips) old.paired c.take_entries.new.paired rows row
                 (λ n k. c.take_entries.ensures.paired n k ∙ taken-as n k _ _ (row_at (seat, held)) row (seen_at old.paired n k) paired same) i.paired_under;
             unpaired_under = under-taken (unpaired_number trips) old.unpaired c.take_entries.new.unpaired rows row
@@ -51,7 +51,7 @@ pub returns-in-Some-remove : goal.returns-in-Some-remove
 returns-in-Some-remove c =
     let old = c.self.inside in
     ap rows_of c.remove.ensures.entries
-    ∙ rows-remove (get_by_text old.ids.numbers) (get_by_text old.trips.numbers) (get_by_text old.vehicles.numbers) old.ids.next old.trips.next old.vehicles.next old.ids.apart old.trips.apart old.vehicles.apart
+    ∙ rows-remove (get_by_text old.ids.numbers) (get_by_text old.trips.numbers) (get_by_text old.vehicles.numbers) old.ids.last old.trips.last old.vehicles.last old.ids.apart old.trips.apart old.vehicles.apart
     c.in-Some.seat (pair_row c.args.row.now) (sym c.in-Some.ensures) old.seats.entries c.self.invariant.0 c.len-count.ensures.ordered
     ∙ ap (remove_key (is_at (row_cmp (pair_row c.args.row.now)))) c.self.view_is
 
@@ -59,7 +59,7 @@ pub returns-in-None-remove : goal.returns-in-None-remove
 returns-in-None-remove c =
     let old = c.self.inside in
     ap rows_of c.remove.ensures.entries
-    ∙ rows-remove (get_by_text old.ids.numbers) (get_by_text old.trips.numbers) (get_by_text old.vehicles.numbers) old.ids.next old.trips.next old.vehicles.next old.ids.apart old.trips.apart old.vehicles.apart
+    ∙ rows-remove (get_by_text old.ids.numbers) (get_by_text old.trips.numbers) (get_by_text old.vehicles.numbers) old.ids.last old.trips.last old.vehicles.last old.ids.apart old.trips.apart old.vehicles.apart
     c.in-Some.seat (pair_row c.args.row.now) (sym c.in-Some.ensures) old.seats.entries c.self.invariant.0 c.len-count.ensures.ordered
     ∙ ap (remove_key (is_at (row_cmp (pair_row c.args.row.now)))) c.self.view_is
 
@@ -71,5 +71,5 @@ returns-in-None c =
     let trips = get_by_text old.trips.numbers in
     let vehicles = get_by_text old.vehicles.numbers in
     sym c.self.view_is
-    ∙ rows-without ids trips vehicles old.ids.next old.trips.next old.vehicles.next old.ids.apart old.trips.apart old.vehicles.apart row (sym c.in-None.ensures) old.seats.entries c.self.invariant.0
+    ∙ rows-without ids trips vehicles old.ids.last old.trips.last old.vehicles.last old.ids.apart old.trips.apart old.vehicles.apart row (sym c.in-None.ensures) old.seats.entries c.self.invariant.0
     ∙ ap (remove_key (is_at (row_cmp row))) c.self.view_is
