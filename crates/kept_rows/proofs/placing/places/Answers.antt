@@ -4,7 +4,8 @@ use Rattle.feed_values.specs.Snapshot.{entity_of, entity_payloads}
 use Rattle.rule_core.specs.Order.{key_cmp}
 use Rattle.judging.specs.Seats.{count_id, count_in, id_of}
 use Rattle.kept_rows.specs.Places.{AreWithin, key_of}
-use Rattle.kept_rows.proofs.OneMore.{all_placed, counted_first, counted_next, counted_other, first_key, number_first, number_other, seated_next, single_first, single_other, stands, stands_first, stands_found, stands_still, was_false, was_true, within_put}
+use Rattle.kept_rows.proofs.OneMore.{all_placed, counted_next, seated_next, within_put}
+use Rattle.kept_rows.proofs.Standing.{counted_first, counted_other, first_key, number_first, number_other, single_first, single_other, stands, stands_first, stands_found, stands_still, was_false, was_true}
 use Rattle.kept_rows.proofs.placing.places.Goals as goal
 use Rattle.kept_rows.proofs.placing.places.Goals.{then-not-branch+in_ok-put_other, else-not-branch}
 

@@ -3,7 +3,7 @@ use Rattle.feed_values.specs.Snapshot.{entity_of, entity_payloads}
 use Rattle.rule_core.specs.History.{ordered_after}
 use Rattle.judging.specs.Seats.{count_id, count_in, seated_after}
 use Rattle.kept_rows.specs.Places.{AreWithin, placed}
-use Rattle.kept_rows.proofs.OneMore.{stands}
+use Rattle.kept_rows.proofs.Standing.{stands}
 use Rattle.kept_rows.proofs.placing.places.Given as goal
 
 -- the entities so far and those that are left are all, and each id so far stands under its first key and is counted from the second on
