@@ -4,8 +4,7 @@ use Rattle.std.proofs.lemmas.Bool.Decides.{nat_tests}
 use Rattle.std.proofs.lemmas.Cmp.{nat_cmp_total}
 use Rattle.std.proofs.lemmas.List.{map-append}
 use Rattle.std.proofs.lemmas.Map.Keys.{sorted_head, sorted_tail}
-use Rattle.std.specs.BTreeMap as tree
-use Rattle.std.specs.BTreeMap.{BTreeMap, insert_entry, is_at}
+use Rattle.std.specs.BTreeMap.{insert_entry, is_at}
 use Rattle.std.specs.Cmp.{eq_by_cmp_equiv}
 use Rattle.std.specs.FinMap as fin
 use Rattle.std.specs.FinMap.{find, is_sorted, nat_cmp-IsAntisymmetric}
@@ -53,12 +52,32 @@ pub find-lookup : (es : Entries) (q : ℕ) → find nat_cmp q es ≡ lookup (is_
 find-lookup [] q = refl
 find-lookup (e ∷ es) q = ap (cond (eq_by_cmp nat_cmp q e.0) (Some e.1)) (find-lookup es q)
 
-updated : (k : ℕ) (t : StopTime) (m n : BTreeMap ℕ StopTime) → tree.Updates nat_cmp m n k (Some t) → Writes k t m.entries n.entries
-updated k t m n updates q =
-    let same = eq_by_cmp_equiv nat_cmp_total in
-    find-lookup n.entries q ∙ updates.0 q
-    ∙ ap (λ o. cond (eq_by_cmp nat_cmp k q) (Some t) o) (sym (find-lookup m.entries q))
-    ∙ ap (λ b. cond b (Some t) (find nat_cmp q m.entries)) (same.symm k q)
+-- a write over an entry with the key
+over : (k q : ℕ) (t v : StopTime) (b : Bool) → eq_by_cmp nat_cmp q k ≡ b → (o : Option StopTime)
+    → cond b (Some t) o ≡ cond (eq_by_cmp nat_cmp q k) (Some t) (cond b (Some v) o)
+over k q t v true is o = rw is refl
+over k q t v false is o = rw is refl
+
+-- and a write behind one with another key
+beside : (k e q : ℕ) (t v : StopTime) → eq_by_cmp nat_cmp k e ≡ false → (b : Bool) → eq_by_cmp nat_cmp q e ≡ b → (c : Bool) → eq_by_cmp nat_cmp q k ≡ c → (o p : Option StopTime)
+    → o ≡ cond c (Some t) p → cond b (Some v) o ≡ cond c (Some t) (cond b (Some v) p)
+beside k e q t v apart true here true there o p is = absurd (grind (arith, nat_tests, here, there, apart))
+beside k e q t v apart true here false there o p is = refl
+beside k e q t v apart false here c there o p is = is
+
+greater : (k e : ℕ) → nat_cmp k e ≡ Greater → eq_by_cmp nat_cmp k e ≡ false
+greater k e is = rw is refl
+
+-- an entry is written at its key
+written : (k : ℕ) (t : StopTime) (es : Entries) → Writes k t es (insert_entry nat_cmp es k t)
+written k t [] q = refl
+written k t (e ∷ es) q = by (nat_cmp k e.0) refl (written k t es q)
+  where
+    by : (r : Ordering) → nat_cmp k e.0 ≡ r → find nat_cmp q (insert_entry nat_cmp es k t) ≡ cond (eq_by_cmp nat_cmp q k) (Some t) (find nat_cmp q es)
+        → find nat_cmp q (insert_entry nat_cmp (e ∷ es) k t) ≡ cond (eq_by_cmp nat_cmp q k) (Some t) (find nat_cmp q (e ∷ es))
+    by Less is rest = rw is refl
+    by Equal is rest = rw is (over k q t e.1 (eq_by_cmp nat_cmp q e.0) (ap (eq_by_cmp nat_cmp q) (nat_cmp-IsAntisymmetric k e.0 is)) (find nat_cmp q es))
+    by Greater is rest = rw is (beside k e.0 q t e.1 (greater k e.0 is) (eq_by_cmp nat_cmp q e.0) refl (eq_by_cmp nat_cmp q k) refl _ _ rest)
 
 -- a stop time put at the end of those that rise
 pub put_last : (ts : List StopTime) (es : Entries) (t : StopTime) → find nat_cmp t.sequence (keyed ts) ≡ None
@@ -68,10 +87,11 @@ put_last ts es t none =
     ∙ inserted t.sequence t (keyed ts ++ es) (keyed ts ++ (t.sequence, t) ∷ es) (behind t.sequence t (keyed ts) es ((t.sequence, t) ∷ es) none (λ q. refl))
 
 -- and one put among the others
-pub put_mixed : (ts : List StopTime) (m n : BTreeMap ℕ StopTime) (t : StopTime) → find nat_cmp t.sequence (keyed ts) ≡ None → tree.Updates nat_cmp m n t.sequence (Some t)
-    → by_sequence (keyed ts ++ n.entries) ≡ fin.insert (by_sequence (keyed ts ++ m.entries)) t.sequence t
-put_mixed ts m n t none updates =
-    inserted t.sequence t (keyed ts ++ m.entries) (keyed ts ++ n.entries) (behind t.sequence t (keyed ts) m.entries n.entries none (updated t.sequence t m n updates))
+pub put_late : (ts : List StopTime) (es : Entries) (t : StopTime) → find nat_cmp t.sequence (keyed ts) ≡ None
+    → by_sequence (keyed ts ++ insert_entry nat_cmp es t.sequence t) ≡ fin.insert (by_sequence (keyed ts ++ es)) t.sequence t
+put_late ts es t none =
+    let fs = insert_entry nat_cmp es t.sequence t in
+    inserted t.sequence t (keyed ts ++ es) (keyed ts ++ fs) (behind t.sequence t (keyed ts) es fs none (written t.sequence t es))
 
 -- no sequence below all is found
 find_below : (k : ℕ) (ts : List StopTime) → IsTrue (below_all nat_cmp k (keyed ts)) → find nat_cmp k (keyed ts) ≡ None
@@ -83,9 +103,10 @@ find_below k (t ∷ ts) h =
     rw other (find_below k ts parts.1)
 
 -- so it doesn't matter where a stop time goes
-pub moved_over : (ts : List StopTime) (m n : BTreeMap ℕ StopTime) (t : StopTime) → AreRising (t ∷ ts) → tree.Updates nat_cmp m n t.sequence (Some t)
-    → by_sequence (keyed ts ++ n.entries) ≡ by_sequence (keyed (t ∷ ts) ++ m.entries)
-moved_over ts m n t rising updates = put_mixed ts m n t (find_below t.sequence ts (both_true _ _ rising).0) updates
+pub moved_over : (ts : List StopTime) (es fs : Entries) (t : StopTime) → AreRising (t ∷ ts) → fs ≡ insert_entry nat_cmp es t.sequence t
+    → by_sequence (keyed ts ++ fs) ≡ by_sequence (keyed (t ∷ ts) ++ es)
+moved_over ts es fs t rising is =
+    ap (λ more. by_sequence (keyed ts ++ more)) is ∙ put_late ts es t (find_below t.sequence ts (both_true _ _ rising).0)
 
 found_in_either : (xs es : Entries) (q : ℕ) → is_some (find nat_cmp q (xs ++ es)) ≡ (is_some (find nat_cmp q xs) || is_some (find nat_cmp q es))
 found_in_either [] es q = refl
@@ -104,8 +125,8 @@ or_true true = refl
 or_true false = refl
 
 -- whether a sequence is held, by where it was looked for
-pub held_mixed : (ts : List StopTime) (es : Entries) (q : ℕ) → is_some (lookup (is_at (nat_cmp q)) es) ≡ true → is_some (fin.get (by_sequence (keyed ts ++ es)) q) ≡ true
-held_mixed ts es q there = held_in_either (keyed ts) es q ∙ ap (λ o. is_some (find nat_cmp q (keyed ts)) || is_some o) (find-lookup es q) ∙ ap (λ b. is_some (find nat_cmp q (keyed ts)) || b) there ∙ or_true _
+pub held_late : (ts : List StopTime) (es : Entries) (q : ℕ) → is_some (find nat_cmp q es) ≡ true → is_some (fin.get (by_sequence (keyed ts ++ es)) q) ≡ true
+held_late ts es q there = held_in_either (keyed ts) es q ∙ ap (λ b. is_some (find nat_cmp q (keyed ts)) || b) there ∙ or_true _
 
 pub held_rising : (ts : List StopTime) (es : Entries) (q i : ℕ) → AreRising ts → StandsAt ts q i → is_some (fin.get (by_sequence (keyed ts ++ es)) q) ≡ true
 held_rising ts es q i rising at = held_in_either (keyed ts) es q ∙ ap (λ o. is_some o || is_some (find nat_cmp q es)) (find_at ts q i rising at) ∙ ap (λ b. b || is_some (find nat_cmp q es)) (at_place ts i at.in_range)
@@ -115,8 +136,8 @@ held_rising ts es q i rising at = held_in_either (keyed ts) es q ∙ ap (λ o. i
     at_place (x ∷ xs) zero h = refl
     at_place (x ∷ xs) (suc j) h = at_place xs j (omega arith)
 
-pub held_nowhere : (ts : List StopTime) (es : Entries) (q : ℕ) → find nat_cmp q (keyed ts) ≡ None → is_some (lookup (is_at (nat_cmp q)) es) ≡ false → is_some (fin.get (by_sequence (keyed ts ++ es)) q) ≡ false
-held_nowhere ts es q none absent = held_in_either (keyed ts) es q ∙ ap (λ o. is_some o || is_some (find nat_cmp q es)) none ∙ ap is_some (find-lookup es q) ∙ absent
+pub held_nowhere : (ts : List StopTime) (es : Entries) (q : ℕ) → find nat_cmp q (keyed ts) ≡ None → is_some (find nat_cmp q es) ≡ false → is_some (fin.get (by_sequence (keyed ts ++ es)) q) ≡ false
+held_nowhere ts es q none absent = held_in_either (keyed ts) es q ∙ ap (λ o. is_some o || is_some (find nat_cmp q es)) none ∙ absent
 
 -- ---- entries under their own sequences
 
@@ -158,9 +179,8 @@ pub one_map : (ts : List StopTime) → AreRising ts → fin.from_sorted {R = nat
 one_map ts rising = fin.same_map nat_cmp_total nat_cmp-IsAntisymmetric _ _ (λ q.
     fin.get-from_sorted nat_cmp (keyed ts) q (rising_list ts rising) ∙ sym (fin.get-from_entries nat_cmp_total (keyed ts) q))
 
-pub only_rising : (ts : List StopTime) (es : Entries) → AreRising ts → length es ≡ 0 → fin.from_sorted {R = nat_cmp} (keyed ts) ≡ by_sequence (keyed ts ++ es)
-only_rising ts [] rising none = one_map ts rising ∙ ap by_sequence (sym (append-nil (keyed ts)))
-only_rising ts (e ∷ es) rising none = absurd (omega (arith, none))
+pub only_rising : (ts : List StopTime) (es : Entries) → AreRising ts → [] ≡ es → fin.from_sorted {R = nat_cmp} (keyed ts) ≡ by_sequence (keyed ts ++ es)
+only_rising ts es rising none = one_map ts rising ∙ ap by_sequence (sym (append-nil (keyed ts))) ∙ ap (λ more. by_sequence (keyed ts ++ more)) none
 
 -- ---- one more row
 

@@ -1,12 +1,13 @@
 -- The files whose tables go by one id.
-use Rattle.std.specs.Prelude.{List, [], ◌∷◌, ◌++◌, Bool, true, Some, None, Result}
-use Rattle.std.specs.FinMap.{empty, get}
+use Rattle.std.specs.Prelude.{ℕ, List, [], ◌∷◌, ◌++◌, Bool, true, Option, Some, None, Result, refl}
+use Rattle.std.specs.Coded.{Coded, code_by, coded×, coded_list, coded_option, coded_ℕ}
+use Rattle.std.specs.FinMap.{code, empty, get}
 use Rattle.std.specs.Ordering.{int_eq}
 use Rattle.timetable.specs.Cells.{Cells}
 use Rattle.timetable.specs.Groups.{ByDay, exceptions}
 use Rattle.timetable.specs.Items.{agency_row, exception_row, frequency_row, route_row, service_row, stop_row, trip_row}
 use Rattle.timetable.specs.Laws.{Keys}
-use Rattle.timetable.specs.Maps.{ByText, Grouping, put_under}
+use Rattle.timetable.specs.Maps.{ByText, Grouping, Text, put_under}
 use Rattle.timetable.specs.Tables.{Format}
 use Rattle.timetable.specs.declared.fault.CellFault.{CellFault}
 use Rattle.timetable.specs.declared.file.File.{File}
@@ -48,6 +49,17 @@ stops = by_id file.Stops stop_row only
 
 abbrev pub routes : Format (Row Route) (ByText (Only Route))
 routes = by_id file.Routes route_row only
+
+-- the trips by id
+abbrev pub ByTrip : Type 0
+ByTrip = ByText (Only Trip)
+
+-- trips as pairs of texts and a number
+abbrev pub by_trip_code : Coded ByTrip
+by_trip_code =
+    code (coded_list coded_ℕ) (code_by ((Text × Text) × Option ℕ) (coded× (coded× (coded_list coded_ℕ) (coded_list coded_ℕ)) (coded_option coded_ℕ))
+    (λ only. ((only.item.route, only.item.service), only.item.direction))
+    (λ p. record { item = record { route = p.0.0; service = p.0.1; direction = p.1 } }) (λ _. refl))
 
 abbrev pub trips : Format (Row Trip) (ByText (Only Trip))
 trips = by_id file.Trips trip_row only

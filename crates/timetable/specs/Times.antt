@@ -1,5 +1,6 @@
 -- The stop times of a trip by sequence.
-use Rattle.std.specs.Prelude.{◌≡◌, ◌<◌, ◌≤◌, ℕ, List, length, map, slice_index_or, IsTrue, Option, Some, None, is_some, if◌then◌else◌, refl}
+use Rattle.std.specs.Prelude.{◌≡◌, ◌<◌, ◌≤◌, ℕ, List, length, map, slice_index_or, IsTrue, Option, Some, None, [], is_some, option_map, unwrap_or, if◌then◌else◌, refl}
+use Rattle.std.specs.BTreeMap.{BTreeMap}
 use Rattle.std.specs.Coded.{Coded, code_by, coded×, coded_ℕ, coded_option}
 use Rattle.std.specs.Ordering.{nat_cmp}
 use Rattle.std.specs.FinMap.{FinMap, empty, from_entries, get, insert, is_sorted}
@@ -27,6 +28,10 @@ AreKeyed entries = keyed (map (λ entry. entry.1) entries) ≡ entries
 -- the map of entries, where the first of a repeated sequence counts
 abbrev pub by_sequence : List (ℕ × StopTime) → BySequence
 by_sequence entries = from_entries entries
+
+-- the entries of a map, none where it is absent
+abbrev pub entries_in : Option (BTreeMap ℕ StopTime) → List (ℕ × StopTime)
+entries_in times = unwrap_or (option_map (λ map. map.entries) times) []
 
 -- the sequences strictly rise
 abbrev pub AreRising : List StopTime → Type 0

@@ -13,6 +13,7 @@ use crate::grouped::{Group, Grouped};
 use crate::row::Item;
 use crate::stop_times::StopTimes;
 use crate::table::{Table, absent_table, read_table};
+use crate::trips::Trips;
 use crate::visits::Visits;
 use rt_outside::{Files, ReadEnd, read_whole};
 use std::alloc::{AllocError, Global};
@@ -73,6 +74,24 @@ where
         folder: &str,
         limit: usize,
     ) -> Result<Grouped<G>, LoadFault> {
+        load_table(alloc, files, folder, limit)
+    }
+}
+
+impl Source for Trips {
+    ghost use Rattle.timetable.specs.Folders.{IsRead, table_of_file};
+    ghost use Rattle.timetable.specs.Formats.{trips};
+
+    ghost tables = { λ limit folder contents. table_of_file trips limit folder contents };
+
+    ghost read = { IsRead trips };
+
+    fn load<F: Files>(
+        alloc: Global,
+        files: &mut F,
+        folder: &str,
+        limit: usize,
+    ) -> Result<Trips, LoadFault> {
         load_table(alloc, files, folder, limit)
     }
 }

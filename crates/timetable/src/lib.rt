@@ -10,8 +10,8 @@
 //! reads it: `flag`, `change`, `location_type`, `sequence`, `headway`, `time`; `id` and `row` read a row,
 //! and each file's is an item: `agency`, `stop`, `route`, `trip`, `visit`, `service_row`, `exception`,
 //! `frequency`; `grouped` holds rows by id, `exceptions`, `frequencies`, `stop_ids` and `numbered` what
-//! stands under it, `trip_rows` and `visits` stop times while they are read, `trip_times` and `stop_times`
-//! from then on; `table` reads a file and `folder` several; `twice` and `timetable` are the whole. `laws`
+//! stands under it, `shared_ids` and `trips` trips while they are read, `late_times`, `trip_rows` and `visits`
+//! stop times while they are read, `trip_times` and `stop_times` from then on; `table` reads a file and `folder` several; `twice` and `timetable` are the whole. `laws`
 //! says what the tables hold in words of their rows.
 #![tactic(auto)]
 
@@ -32,6 +32,7 @@ mod grouped;
 mod header;
 mod headway;
 mod id;
+mod late_times;
 mod laws;
 mod location_type;
 mod numbered;
@@ -40,6 +41,7 @@ mod route;
 mod row;
 mod sequence;
 mod service_row;
+mod shared_ids;
 mod stop;
 mod stop_ids;
 mod stop_time;
@@ -50,6 +52,7 @@ mod timetable;
 mod trip;
 mod trip_rows;
 mod trip_times;
+mod trips;
 mod twice;
 mod value;
 mod visit;

@@ -27,6 +27,7 @@ use crate::stop_time::StopTime;
 use crate::stop_times::StopTimes;
 use crate::trip::Trip;
 use crate::trip_times::TripTimes;
+use crate::trips::Trips;
 use crate::twice::trips_that_return;
 use rt_day::Day;
 use rt_outside::Files;
@@ -84,7 +85,7 @@ pub(crate) type Loaded = (
         (
             Grouped<Only<Route>>,
             (
-                Grouped<Only<Trip>>,
+                Trips,
                 (
                     StopTimes,
                     (

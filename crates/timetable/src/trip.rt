@@ -5,15 +5,15 @@ use crate::column::Column;
 use crate::fault::CellFault;
 use crate::file::File;
 use crate::flag::Flag;
-use crate::id::Id;
 use crate::row::{Item, Row};
+use crate::shared_ids::SharedId;
 use std::alloc::Global;
 
 /// A trip, with its route, its service, and its direction where that is given.
 #[derive(Drop)]
 pub(crate) struct Trip {
-    pub route: Id,
-    pub service: Id,
+    pub route: SharedId,
+    pub service: SharedId,
     pub direction: Option<u32>,
 }
 
@@ -30,8 +30,8 @@ impl Item for Trip {
     }
 
     fn read(alloc: Global, cells: &Cells<'_>) -> Result<Row<Trip>, CellFault> {
-        let route = cells.id(alloc, Column::RouteId)?;
-        let service = cells.id(alloc, Column::ServiceId)?;
+        let route = SharedId::new(cells.id(alloc, Column::RouteId)?)?;
+        let service = SharedId::new(cells.id(alloc, Column::ServiceId)?)?;
         let id = cells.filled_id(alloc, Column::TripId)?;
         let direction = match cells.value::<Option<Flag>>(Column::DirectionId)? {
             Some(Flag(direction)) => Some(direction as u32),

@@ -1,9 +1,10 @@
 //! The stop times of one trip while they are read.
 
-ghost use Rattle.std.specs.Prelude.{◌≡◌, ◌++◌, IfOk};
+ghost use Rattle.std.specs.Prelude.{◌≡◌, ◌++◌, ◌∷◌, [], IfOk, OnErr, OnOk};
 ghost use Rattle.timetable.specs.Times.{AreKeyed, AreRising, by_sequence, keyed};
 
 use crate::grouped::Group;
+use crate::late_times::LateTimes;
 use crate::stop_time::StopTime;
 use crate::trip_times::{TripTimes, search};
 use std::alloc::{AllocError, Global};
@@ -12,12 +13,12 @@ use std::marker::Model;
 
 /// The stop times of a trip in any order. Contracts see a finite map from their sequences.
 ///
-/// A row whose sequence is above those in `rising` goes to its end, and any other to `mixed`, so that no
-/// order of the rows makes adding one slow and rows in order take no more room than they need.
+/// A row whose sequence is above those in `rising` goes to its end, and any other to `late`, so that no
+/// order of the rows makes adding one slow.
 #[derive(Drop)]
 pub(crate) struct TripRows {
     rising: Vec<StopTime>,
-    mixed: BTreeMap<u32, StopTime>,
+    late: LateTimes,
 }
 
 impl Model for TripRows {
@@ -30,9 +31,9 @@ impl Model for TripRows {
 
     ghost coded = { code coded_ℕ stop_time_code };
 
-    ghost view = { λ trip. by_sequence (keyed trip.rising.items ++ trip.mixed.entries) };
+    ghost view = { λ trip. by_sequence (keyed trip.rising.items ++ trip.late) };
 
-    ghost invariant = { λ trip. AreRising trip.rising.items × AreKeyed trip.mixed.entries };
+    ghost invariant = { λ trip. AreRising trip.rising.items × AreKeyed trip.late };
 }
 
 impl TripRows {
@@ -40,12 +41,14 @@ impl TripRows {
     pub fn settled(self, alloc: Global) -> Result<TripTimes, AllocError>
         ensures { IfOk result (λ trip. trip ≡ self) }
     {
-        let TripRows { rising, mixed } = self;
-        if mixed.is_empty() {
-            return Ok(TripTimes::new(rising));
+        let TripRows { rising, late } = self;
+        match late.into_map() {
+            Some(late) => {
+                let all = with_all(late, rising)?;
+                Ok(TripTimes::new(in_order(alloc, all)?))
+            }
+            None => Ok(TripTimes::new(rising)),
         }
-        let all = with_all(mixed, rising)?;
-        Ok(TripTimes::new(in_order(alloc, all)?))
     }
 }
 
@@ -61,12 +64,12 @@ impl Group for TripRows {
         rising.push(item)?;
         Ok(TripRows {
             rising,
-            mixed: BTreeMap::new(alloc),
+            late: LateTimes::new(),
         })
     }
 
     fn put(&mut self, item: StopTime) -> Result<bool, AllocError> {
-        if self.mixed.contains_key(&item.sequence) {
+        if self.late.contains(item.sequence) {
             return Ok(false);
         }
         let at = match search(self.rising.as_slice(), item.sequence) {
@@ -74,38 +77,53 @@ impl Group for TripRows {
             Err(at) => at,
         };
         if at == self.rising.len() {
-            self.rising.push(item)?;
+            push(&mut self.rising, item)?;
             return Ok(true);
         }
-        self.mixed.insert(item.sequence, item)?;
+        let alloc = *self.rising.allocator();
+        self.late.put(alloc, item)?;
         Ok(true)
     }
 }
 
+/// Adds a stop time at the end.
+///
+/// A full list grows by an eighth, and at least by four, so that little room of many short lists is unused.
+fn push(times: &mut Vec<StopTime>, time: StopTime) -> Result<(), AllocError>
+    ensures ok { OnOk result (times.new.items ≡ times.old.items ++ time ∷ []) }
+    ensures err { OnErr result (times.new.items ≡ times.old.items) }
+{
+    if times.len() == times.capacity() {
+        times.reserve_exact((times.len() / 8).max(4))?;
+    }
+    times.push(time)?;
+    Ok(())
+}
+
 /// The map with these stop times too.
 fn with_all(
-    mut mixed: BTreeMap<u32, StopTime>,
+    mut late: BTreeMap<u32, StopTime>,
     rising: Vec<StopTime>,
 ) -> Result<BTreeMap<u32, StopTime>, AllocError>
-    requires keyed { AreKeyed mixed.entries }
+    requires keyed { AreKeyed late.entries }
     requires rising { AreRising rising.items }
     ensures keyed { IfOk result (λ all. AreKeyed all.entries) }
-    ensures entries { IfOk result (λ all. by_sequence all.entries ≡ by_sequence (keyed rising.items ++ mixed.entries)) }
+    ensures entries { IfOk result (λ all. by_sequence all.entries ≡ by_sequence (keyed rising.items ++ late.entries)) }
 {
     for time in rising {
-        mixed.insert(time.sequence, time)?;
+        late.insert(time.sequence, time)?;
     }
-    Ok(mixed)
+    Ok(late)
 }
 
 /// The stop times of a map by rising sequence.
-fn in_order(alloc: Global, mixed: BTreeMap<u32, StopTime>) -> Result<Vec<StopTime>, AllocError>
-    requires { AreKeyed mixed.entries }
+fn in_order(alloc: Global, all: BTreeMap<u32, StopTime>) -> Result<Vec<StopTime>, AllocError>
+    requires { AreKeyed all.entries }
     ensures rising { IfOk result (λ times. AreRising times.items) }
-    ensures entries { IfOk result (λ times. keyed times.items ≡ mixed.entries) }
+    ensures entries { IfOk result (λ times. keyed times.items ≡ all.entries) }
 {
     let mut times = Vec::new(alloc);
-    for (_, time) in mixed {
+    for (_, time) in all {
         times.push(time)?;
     }
     Ok(times)

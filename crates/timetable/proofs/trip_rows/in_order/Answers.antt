@@ -5,5 +5,5 @@ use Rattle.timetable.proofs.trip_rows.in_order.Goals as goal
 
 pub returns-clause-rising : goal.returns-clause-rising
 returns-clause-rising c =
-    let all : keyed c.loop-time.times.items ≡ c.args.mixed.entries = search rules in
-    rising_entries c.loop-time.times.items c.args.mixed.entries all c.into_iter-time-iterator.ensures.into_iter_gives.5
+    let all : keyed c.loop-time.times.items ≡ c.args.all.entries = search rules in
+    rising_entries c.loop-time.times.items c.args.all.entries all c.into_iter-time-iterator.ensures.into_iter_gives.5

@@ -10,9 +10,9 @@ loop-time-preserved c =
     let rest = into_iter_items c.next.new.self in
     let more : into_iter_items c.loop-time.time-iterator ≡ time ∷ rest = search rules in
     let rising = subst AreRising more c.loop-time.invariant.rising in
-    let old = subst (λ ts. by_sequence (keyed ts ++ c.loop-time.mixed.entries) ≡ by_sequence (keyed c.args.rising.items ++ c.args.mixed.entries)) more c.loop-time.invariant.whole in
+    let old = subst (λ ts. by_sequence (keyed ts ++ c.loop-time.late.entries) ≡ by_sequence (keyed c.args.rising.items ++ c.args.late.entries)) more c.loop-time.invariant.whole in
     record {
-      whole = moved_over rest c.loop-time.mixed c.insert.new.self time rising c.in_ok-insert.ensures.updates ∙ old;
+      whole = moved_over rest c.loop-time.late.entries c.insert.new.self.entries time rising c.in_ok-insert.ensures.entries ∙ old;
       rising = later_rising time rest rising;
-      keyed = still_keyed c.loop-time.mixed.entries c.insert.new.self.entries time c.loop-time.invariant.keyed c.in_ok-insert.ensures.entries;
+      keyed = still_keyed c.loop-time.late.entries c.insert.new.self.entries time c.loop-time.invariant.keyed c.in_ok-insert.ensures.entries;
     }
