@@ -61,12 +61,12 @@ impl Look {
             return Clear::Nowhere;
         };
         let stops = update.stop_time_update.as_slice();
-        if stops.is_empty() || stops.len() > 4294967295 {
+        if stops.is_empty() {
             return Clear::Nowhere;
         }
         match self {
             Look::Soundness if are_sound(entity, stops) => Clear::Sound(are_related(stops)),
-            Look::Timetable if table.is_present() && keep(table, entity, stops.len() as u32) => {
+            Look::Timetable if table.is_present() && keep(table, entity, stops) => {
                 Clear::Kept(are_sequenced(stops))
             }
             _ => Clear::Nowhere,

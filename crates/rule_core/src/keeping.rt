@@ -1,17 +1,18 @@
 //! Whether the stop time updates of an entity keep to the timetable. Nothing here takes memory.
-ghost use Rattle.std.specs.Prelude.{◌≡◌, ℕ, List, true};
-ghost use Rattle.feed_values.specs.Cells.{cell_value, entity_cell};
-ghost use Rattle.feed_values.specs.Views.{entity_value};
-ghost use Rattle.feed_values.specs.declared.slot.Slot.TheVariants as slots;
+ghost use Rattle.std.specs.Prelude.{◌≡◌, ℕ, List, true, length};
+ghost use Rattle.feed_values.specs.Cells.{cell_value, number_cell};
+ghost use Rattle.feed_values.specs.Meaning.{option_case};
+ghost use Rattle.feed_values.specs.Views.{entity_value, stop_time_update_value};
+ghost use Rattle.feed_values.specs.declared.cell_value.CellValue.TheVariants.{Missing};
 ghost use Rattle.timetable.specs.Lookups.{IsStop, tables_in};
 ghost use Rattle.rule_core.specs.Keeping.{IsHalt, KeepBelow, Keeps, KeepsTime, KeepsTrip, has_time};
 ghost use Rattle.rule_core.specs.KnownTrips.{HasStops, IsTripAt, IsTripWith};
+ghost use Rattle.rule_core.specs.Sound.{AreUpdates, IsUpdateAt};
 
-use crate::cells::sequence_at;
 use crate::known_trip::{KnownTrip, known_trip};
 use crate::passing::{differ, is_given};
-use crate::stop_cells::cell_in;
-use feed_values::{CellRef, Entity, Slot};
+use crate::stop_cells::{delay_cell, id_cell, time_cell};
+use feed_values::{CellRef, Entity, StopTimeEvent, StopTimeUpdate};
 use timetable::{StopTime, Timetable};
 
 fn is_halt(table: &Timetable, stop: CellRef<'_>) -> bool
@@ -26,43 +27,43 @@ fn is_halt(table: &Timetable, stop: CellRef<'_>) -> bool
     }
 }
 
-/// Whether the event with a delay and a time has a time, where one is scheduled or not.
-fn has_time(entity: &Entity, index: u32, scheduled: Option<u32>, delay: Slot, time: Slot) -> bool
-    ensures { result ≡ has_time scheduled (entity_cell (entity_value entity.now) delay index) (entity_cell (entity_value entity.now) time index) }
+/// Whether an event has a time, where one is scheduled or not.
+fn has_time(scheduled: Option<u32>, event: &Option<StopTimeEvent>) -> bool
+    ensures { result ≡ has_time scheduled (option_case event.now Missing (λ e. number_cell e.delay)) (option_case event.now Missing (λ e. number_cell e.time)) }
 {
-    scheduled.is_some()
-        || !is_given(cell_in(entity, delay, index))
-        || is_given(cell_in(entity, time, index))
+    scheduled.is_some() || !is_given(delay_cell(event)) || is_given(time_cell(event))
 }
 
-/// Whether an update with a stop keeps to a stop time.
+/// Whether an update keeps to a stop time.
 fn keeps_time(
     table: &Timetable,
     entity: &Entity,
-    index: u32,
+    index: usize,
     time: &StopTime,
-    stop: CellRef<'_>,
+    stop: &StopTimeUpdate,
 ) -> bool
     requires time { IsStop table.now time.now.stop }
-    requires stop { cell_value stop ≡ entity_cell (entity_value entity.now) slots.S33 index }
+    requires stop { IsUpdateAt (entity_value entity.now) index (stop_time_update_value stop.now) }
     ensures { result ≡ true → KeepsTime (tables_in table.now) (entity_value entity.now) index time.now }
 {
-    !differ(stop, CellRef::Text(table.stop_text(time.stop)))
-        && has_time(entity, index, time.arrival, Slot::S36, Slot::S37)
-        && has_time(entity, index, time.departure, Slot::S39, Slot::S40)
+    !differ(
+        id_cell(&stop.stop_id),
+        CellRef::Text(table.stop_text(time.stop)),
+    ) && has_time(time.arrival, &stop.arrival)
+        && has_time(time.departure, &stop.departure)
 }
 
-/// Whether an update with a stop keeps to the stop time that its trip, which is known, has at a stop_sequence.
+/// Whether an update keeps to the stop time that its trip, which is known, has at a stop_sequence.
 fn keeps_trip(
     table: &Timetable,
     entity: &Entity,
-    index: u32,
+    index: usize,
     trip: KnownTrip<'_>,
     sequence: u32,
-    stop: CellRef<'_>,
+    stop: &StopTimeUpdate,
 ) -> bool
     requires trip { HasStops table.now trip }
-    requires stop { cell_value stop ≡ entity_cell (entity_value entity.now) slots.S33 index }
+    requires stop { IsUpdateAt (entity_value entity.now) index (stop_time_update_value stop.now) }
     ensures { result ≡ true → (id : List ℕ) → IsTripWith (tables_in table.now) trip.entry id → KeepsTrip (tables_in table.now) (entity_value entity.now) index id sequence }
 {
     match trip.at(sequence) {
@@ -72,28 +73,34 @@ fn keeps_trip(
 }
 
 /// Whether the update at an index keeps to the timetable.
-fn keeps(table: &Timetable, entity: &Entity, trip: Option<KnownTrip<'_>>, index: u32) -> bool
-    requires { IsTripAt table.now (entity_value entity.now) trip }
+fn keeps(
+    table: &Timetable,
+    entity: &Entity,
+    trip: Option<KnownTrip<'_>>,
+    index: usize,
+    stop: &StopTimeUpdate,
+) -> bool
+    requires trip { IsTripAt table.now (entity_value entity.now) trip }
+    requires stop { IsUpdateAt (entity_value entity.now) index (stop_time_update_value stop.now) }
     ensures { result ≡ true → Keeps (tables_in table.now) (entity_value entity.now) index }
 {
-    let stop = cell_in(entity, Slot::S33, index);
-    if !is_halt(table, stop) {
+    if !is_halt(table, id_cell(&stop.stop_id)) {
         return false;
     }
-    let sequence = cell_in(entity, Slot::S32, index);
-    match (trip, sequence_at(&[sequence], 0)) {
+    match (trip, stop.stop_sequence) {
         (Some(trip), Some(sequence)) => keeps_trip(table, entity, index, trip, sequence, stop),
         _ => true,
     }
 }
 
-/// Whether each of so many updates keeps to the timetable.
-pub(crate) fn keep(table: &Timetable, entity: &Entity, places: u32) -> bool
-    ensures { result ≡ true → KeepBelow (tables_in table.now) (entity_value entity.now) places }
+/// Whether each of an entity's updates keeps to the timetable.
+pub(crate) fn keep(table: &Timetable, entity: &Entity, stops: &[StopTimeUpdate]) -> bool
+    requires { AreUpdates (entity_value entity.now) stops.now }
+    ensures { result ≡ true → KeepBelow (tables_in table.now) (entity_value entity.now) (length stops.now) }
 {
     let trip = known_trip(table, entity);
-    for index in 0..places {
-        if !keeps(table, entity, trip, index) {
+    for (index, stop) in stops.iter().enumerate() {
+        if !keeps(table, entity, trip, index, stop) {
             return false;
         }
     }

@@ -4,8 +4,7 @@ ghost use Rattle.std.specs.FinMap.{get};
 ghost use Rattle.feed_values.specs.Views.{entity_value};
 ghost use Rattle.rule_core.specs.KnownTrips.{IsTripAt};
 
-use crate::stop_cells::cell_in;
-use feed_values::{CellRef, Entity, Slot};
+use feed_values::{CellRef, Entity, Path, Slot, field_at};
 use timetable::{StopTime, Timetable, TripTimes};
 
 /// A trip of trips.txt. Its stop times are None where it has none.
@@ -30,7 +29,11 @@ impl<'a> KnownTrip<'a> {
 pub(crate) fn known_trip<'a>(table: &'a Timetable, entity: &Entity) -> Option<KnownTrip<'a>>
     ensures { IsTripAt table.now (entity_value entity.now) result }
 {
-    let CellRef::Text(id) = cell_in(entity, Slot::S21, 0) else {
+    let trip_id = Path {
+        slot: Slot::S21,
+        index: 0,
+    };
+    let CellRef::Text(id) = field_at(entity, trip_id) else {
         return None;
     };
     let Some(trip) = table.trip(id) else {

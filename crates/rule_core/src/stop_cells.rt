@@ -2,14 +2,14 @@
 ghost use Rattle.std.specs.Prelude.{◌≡◌, ℕ, pos};
 ghost use Rattle.feed_values.specs.Schema.{Value};
 ghost use Rattle.feed_values.specs.Messages as messages;
-ghost use Rattle.feed_values.specs.Cells.{cell_value, entity_cell, number_cell, text_cell};
+ghost use Rattle.feed_values.specs.Cells.{cell_value, number_cell, text_cell};
 ghost use Rattle.feed_values.specs.Meaning.{option_case};
-ghost use Rattle.feed_values.specs.Views.{entity_value, stop_time_update_value};
+ghost use Rattle.feed_values.specs.Views.{stop_time_update_value};
 ghost use Rattle.feed_values.specs.declared.cell_value.CellValue.TheVariants.{Missing, Number};
 ghost use Rattle.rule_core.specs.Sound.{AreCells, IsUpdateAt};
 
 use crate::cells::number_cell;
-use feed_values::{CellRef, Entity, Path, Slot, StopTimeEvent, StopTimeUpdate, Text, field_at};
+use feed_values::{CellRef, StopTimeEvent, StopTimeUpdate, Text};
 
 #[derive(Clone, Copy, Debug)]
 pub(crate) struct StopCells<'a> {
@@ -24,13 +24,6 @@ pub(crate) struct StopCells<'a> {
     pub departure_time: CellRef<'a>,
 }
 
-/// What stands in an entity at a slot and an index.
-pub(crate) fn cell_in(entity: &Entity, slot: Slot, index: u32) -> CellRef<'_>
-    ensures { cell_value result ≡ entity_cell (entity_value entity.now) slot index }
-{
-    field_at(entity, Path { slot, index })
-}
-
 fn integer_cell(number: Option<i64>) -> CellRef<'static>
     ensures { cell_value result ≡ number_cell number }
 {
@@ -40,7 +33,7 @@ fn integer_cell(number: Option<i64>) -> CellRef<'static>
     }
 }
 
-fn id_cell(id: &Option<Text>) -> CellRef<'_>
+pub(crate) fn id_cell(id: &Option<Text>) -> CellRef<'_>
     ensures { cell_value result ≡ text_cell id.now }
 {
     match id {
@@ -58,7 +51,7 @@ fn event_cell(event: &Option<StopTimeEvent>) -> CellRef<'static>
     }
 }
 
-fn delay_cell(event: &Option<StopTimeEvent>) -> CellRef<'static>
+pub(crate) fn delay_cell(event: &Option<StopTimeEvent>) -> CellRef<'static>
     ensures { cell_value result ≡ option_case event.now Missing (λ e. number_cell e.delay) }
 {
     match event {
@@ -67,7 +60,7 @@ fn delay_cell(event: &Option<StopTimeEvent>) -> CellRef<'static>
     }
 }
 
-fn time_cell(event: &Option<StopTimeEvent>) -> CellRef<'static>
+pub(crate) fn time_cell(event: &Option<StopTimeEvent>) -> CellRef<'static>
     ensures { cell_value result ≡ option_case event.now Missing (λ e. number_cell e.time) }
 {
     match event {

@@ -23,6 +23,9 @@ returns-in-Timetable c key =
     let all = kept.all_clear tables key e kept_there c.are_sequenced.result (sequenced_clear (Some tables) key e stops updates c.are_sequenced.result c.are_sequenced.ensures) in
     subst (λ t. AreClear (local_answer t key e) key e (clear.Kept c.are_sequenced.result)) (sym there) all
 
+pub keep-requires : goal.keep-requires
+keep-requires c = held_updates c.args.entity.now c.in-Some.update c.as_slice-stops.result.now c.in-Some.is (sym c.as_slice-stops.ensures)
+
 pub are_sound-requires : goal.are_sound-requires
 are_sound-requires c = held_updates c.args.entity.now c.in-Some.update c.as_slice-stops.result.now c.in-Some.is (sym c.as_slice-stops.ensures)
 
