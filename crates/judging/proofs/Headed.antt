@@ -1,5 +1,5 @@
 -- The findings of the group on headers are those of all rules there.
-use Rattle.std.specs.Prelude.{◌≡◌, ℕ, Bool, true, false, List, [], ◌∷◌, ◌++◌, Option, Some, None, option_map, refl}
+use Rattle.std.specs.Prelude.{◌≡◌, ℕ, Bool, true, false, List, [], ◌∷◌, ◌++◌, Option, Some, None, refl}
 use Rattle.std.specs.List.{list_all}
 use Rattle.std.proofs.Common.{sym, ap, ◌∙◌}
 use borrow.Author.Tests.{clash}
@@ -15,14 +15,14 @@ use Rattle.rule_core.specs.declared.row.Cite.TheVariants as cite
 use Rattle.rule_core.specs.declared.fact.Fact.{Fact}
 use Rattle.rule_core.specs.declared.place.Place.TheVariants as place
 use Rattle.rule_core.specs.Answered.{Heads, heads_answer}
-use Rattle.rule_core.specs.Asked.{ask_at, trip_id_of, start_time_of, start_date_of, relationship_of, delay_of, time_of, holder_of}
+use Rattle.rule_core.specs.Asked.{ask_at}
 use Rattle.rule_core.specs.Cited.{and_then, answered, fact_at, values_of}
 use Rattle.rule_core.specs.CitedLaws.{Along, both_same, found_along}
-use Rattle.rule_core.specs.Table.{all_rules, head_slots_of, head_cites_of}
-use Rattle.rule_core.specs.Judged.{found_at, found_on, head_found_all}
+use Rattle.rule_core.specs.Table.{head_slots_of, head_cites_of}
+use Rattle.rule_core.specs.Judged.{found_on, head_found_all}
 use Rattle.rule_core.specs.GroupLaws.{and_true}
 use Rattle.rule_core.specs.Pairs.{PairRow}
-use Rattle.rule_core.specs.Sources.{Source, from_entity, from_timetable, from_rows, from_bounds, from_headers, source_of}
+use Rattle.rule_core.specs.Sources.{Source, from_bounds, from_headers, source_of}
 use Rattle.history_rules.specs.Rules.{head_rules}
 use Rattle.judging.specs.Whole.{feed_answer, header_found}
 

@@ -1,5 +1,5 @@
 -- The findings after a history of one snapshot are those of this snapshot by itself.
-use Rattle.std.specs.Prelude.{◌≡◌, ◌⊎◌, ◌<◌, ◌≤◌, ◌+◌, ◌==◌, ℕ, zero, suc, Bool, true, false, ◌&&◌, List, [], ◌∷◌, ◌++◌, filter, reverse, map, Option, Some, None, option_map, option_and_then, bytes_eq, cond, refl}
+use Rattle.std.specs.Prelude.{◌≡◌, ◌<◌, ◌+◌, ◌==◌, ℕ, zero, suc, Bool, true, false, ◌&&◌, List, [], ◌∷◌, ◌++◌, reverse, map, Option, Some, None, option_map, option_and_then, bytes_eq, cond, refl}
 use Rattle.std.specs.Option.{option_or}
 use Rattle.std.specs.List.{flat_map, find}
 use Rattle.std.specs.declared.cmp.Ordering.{Ordering}
@@ -8,7 +8,7 @@ use Rattle.std.specs.Ordering.{nat_cmp, is_eq, ordering_then, ordering_reverse, 
 use Rattle.std.specs.Cmp.{IsTotalOrder}
 use Rattle.std.specs.Cmp.Lexicographic.{slice_cmp, nat_list_cmp_total, texts_ties}
 use Rattle.std.specs.BTreeMap.{insert_entry}
-use Rattle.std.proofs.Common.{inl, inr, sym, ap, ◌∙◌, subst, arith, eq-eqb}
+use Rattle.std.proofs.Common.{sym, ap, ◌∙◌, arith, eq-eqb}
 use Rattle.std.proofs.lemmas.Bool.Decides.{nat_tests}
 use Rattle.std.proofs.lemmas.Cmp.{nat_cmp_total, on_total, then_total}
 use borrow.Author.Tests.{eqb-true, ne_eqb}
@@ -29,7 +29,7 @@ use Rattle.rule_core.specs.GroupLaws.{each_weaken}
 use Rattle.rule_core.specs.CitedLaws.{both_same}
 use Rattle.rule_core.specs.Pairs.{PairRow, rows_of}
 use Rattle.rule_core.specs.History.{Snapshot, Keyed, now, before, entities, entities_in, entities_of_snapshot, keyed_after, ordered_after, count_id, id_of, below, feed_limit, first_of, second_of}
-use Rattle.rule_core.specs.Answered.{Heads, heads_of, entity_answer, heads_answer, timetable_answer, rows_answer, rows_in, rows, feed_answer, answer_under, payload_under}
+use Rattle.rule_core.specs.Answered.{Heads, heads_of, entity_answer, heads_answer, timetable_answer, rows_answer, rows_in, rows, feed_answer, payload_under}
 use Rattle.rule_core.specs.Findings.{entity_findings, feed_findings, findings}
 use Rattle.judging.specs.Seats as seat
 use Rattle.judging.specs.Seats.{Seat, Rising, seated_after, seats}

@@ -2,21 +2,19 @@
 use Rattle.std.specs.Prelude.{◌≡◌, ℕ, Bool, true, false, ◌&&◌, ◌||◌, ◌==◌, List, [], ◌∷◌, ◌++◌, Option, Some, None, option_map, option_and_then, is_some, cond, refl}
 use Rattle.std.specs.Option.{option_or}
 use Rattle.std.specs.List.{flat_map, list_any, find}
-use Rattle.std.specs.declared.cmp.Ordering.{Ordering}
 use Rattle.std.specs.declared.cmp.Ordering.TheVariants as order
 use Rattle.std.specs.Ordering.{ordering_then, ordering_reverse, match_ordering}
 use Rattle.std.specs.BTreeSet.{insert_key}
 use Rattle.std.proofs.Common.{sym, ap, ◌∙◌, subst, append_assoc, append-nil}
-use borrow.Author.Tests.{clash}
 use Rattle.feed_values.specs.Schema.{Value}
 use Rattle.feed_values.specs.Messages.{entity, trip_update, vehicle_position}
 use Rattle.timetable.specs.Timetables.{Tables}
 use Rattle.rule_core.specs.declared.key.EntityKey.{EntityKey}
 use Rattle.rule_core.specs.declared.kind.Kind.{Kind}
 use Rattle.rule_core.specs.declared.kind.Kind.TheVariants as kind
-use Rattle.rule_core.specs.Kinds.{kind_cmp, same_kind}
+use Rattle.rule_core.specs.Kinds.{kind_cmp}
 use Rattle.rule_core.specs.Order.{key_cmp}
-use Rattle.rule_core.specs.Answered.{Heads, local_answer, bound_answer, pair_answer}
+use Rattle.rule_core.specs.Answered.{Heads, local_answer, bound_answer}
 use Rattle.rule_core.specs.Judged.{found_all, update_of}
 use Rattle.rule_core.specs.Groups.{Each}
 use Rattle.rule_core.specs.GroupLaws.{each_append, each_weaken}
@@ -26,7 +24,6 @@ use Rattle.rule_core.specs.PairAgree.{Agree, AgreeOnRow}
 use Rattle.feed_values.specs.Snapshot.{timestamp_of}
 use Rattle.message_rules.specs.Message.{message_rules}
 use Rattle.schedule_rules.specs.Schedule.{schedule_rules}
-use Rattle.pairing_rules.specs.Pairing.{pairing_rules}
 use Rattle.pairing_rules.specs.Agreeing.{rules_agree}
 use Rattle.pairing_rules.specs.Rows.{row_cmp, id_cmp}
 use Rattle.pairing_rules.proofs.Order.{rows_total}

@@ -1,8 +1,8 @@
 -- The findings of rules at an entity, rule by rule, are those of all rules; and a list that is in the order of its rules is itself
 -- rule by rule.
-use Rattle.std.specs.Prelude.{◌≡◌, ◌⊎◌, ℕ, ◌+◌, ◌≤◌, ◌<◌, ◌==◌, nat_le, Bool, true, false, not, ◌&&◌, ◌||◌, List, [], ◌∷◌, ◌++◌, filter, Option, Some, slice_get, cond, refl}
-use Rattle.std.specs.List.{list_any, list_all}
-use Rattle.std.proofs.Common.{inl, inr, sym, ap, ◌∙◌, subst, arith}
+use Rattle.std.specs.Prelude.{◌≡◌, ◌⊎◌, ℕ, ◌+◌, ◌≤◌, ◌<◌, ◌==◌, nat_le, Bool, true, false, ◌&&◌, ◌||◌, List, [], ◌∷◌, ◌++◌, filter, Option, Some, slice_get, cond, refl}
+use Rattle.std.specs.List.{list_all}
+use Rattle.std.proofs.Common.{inl, inr, sym, ap, ◌∙◌, arith}
 use Rattle.std.proofs.lemmas.List.Elements.{filter-append}
 use borrow.Author.Tests.{eqb-true, eqb-false, eq-eqb, ne_eqb, leb-true, leb-false, both_ways}
 use Rattle.feed_values.specs.declared.slot.Slot.{Slot}
@@ -17,7 +17,7 @@ use Rattle.rule_core.specs.Rules.{rule_number, same_rule}
 use Rattle.rule_core.specs.Table.{all_rules, slots_of}
 use Rattle.rule_core.specs.Found.{Found}
 use Rattle.rule_core.specs.Judged.{found_in, found_by, found_all}
-use Rattle.rule_core.specs.Groups.{Each, IsOf, IsUnder, NoneInBoth, has_rule, has_number, are_apart}
+use Rattle.rule_core.specs.Groups.{Each, IsOf, IsUnder, has_rule, has_number, are_apart}
 use Rattle.rule_core.specs.GroupLaws.{each_weaken, and_true, row_own, apart_first, apart_rest}
 use Rattle.rule_core.specs.CitedLaws.{both_same}
 use Rattle.judging.specs.Ruled.{of_rule, by_rule}

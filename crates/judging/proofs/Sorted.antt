@@ -1,5 +1,5 @@
 -- A stable sort by the rules' numbers puts findings rule by rule.
-use Rattle.std.specs.Prelude.{◌≡◌, ℕ, ◌≤◌, ◌<◌, ◌+◌, zero, suc, ◌==◌, nat_lt, Bool, true, false, not, ◌&&◌, List, [], ◌∷◌, filter, length, slice_index_or, cond, refl}
+use Rattle.std.specs.Prelude.{◌≡◌, ℕ, ◌≤◌, ◌<◌, suc, ◌==◌, nat_lt, Bool, true, false, not, ◌&&◌, List, [], ◌∷◌, filter, length, slice_index_or, cond, refl}
 use Rattle.std.specs.Ordering.{nat_cmp, is_lt}
 use Rattle.std.specs.List.Sorted.{ties, IsStableByKey, IsNonDecreasingBy}
 use Rattle.std.proofs.Common.{sym, ap, ◌∙◌, arith}

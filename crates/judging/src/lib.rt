@@ -15,4 +15,4 @@ pub use all_rules::AllRules;
 pub use laws::one_snapshot_is_its_history;
 pub use rows::rows_of;
 pub use ruling::rule_by_rule;
-pub use seating::{count_one, seats};
+pub use seating::count_one;

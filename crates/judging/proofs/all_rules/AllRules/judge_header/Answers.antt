@@ -1,4 +1,4 @@
-use Rattle.std.proofs.Common.{◌++◌, ap, ◌∙◌, map}
+use Rattle.std.proofs.Common.{◌++◌, ap, ◌∙◌}
 use Rattle.std.specs.Option.{option_map, option_copied}
 use Rattle.feed_values.specs.Views.{feed_header_value}
 use Rattle.rule_core.specs.Answered.{Heads, heads_answer}
