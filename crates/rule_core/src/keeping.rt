@@ -66,7 +66,7 @@ fn keeps_trip(
     requires stop { IsUpdateAt (entity_value entity.now) index (stop_time_update_value stop.now) }
     ensures { result ≡ true → (id : List ℕ) → IsTripWith (tables_in table.now) trip.entry id → KeepsTrip (tables_in table.now) (entity_value entity.now) index id sequence }
 {
-    match trip.at(sequence) {
+    match trip.at(sequence, index) {
         None => false,
         Some(time) => keeps_time(table, entity, index, time, stop),
     }

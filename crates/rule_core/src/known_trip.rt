@@ -14,13 +14,16 @@ pub(crate) struct KnownTrip<'a> {
 }
 
 impl<'a> KnownTrip<'a> {
-    /// The stop time at a stop_sequence.
-    pub fn at(self, sequence: u32) -> Option<&'a StopTime>
+    /// The stop time at a stop_sequence. Most feeds have an update for each stop, so the one of this number is looked at first.
+    pub fn at(self, sequence: u32, number: usize) -> Option<&'a StopTime>
         ensures { option_copied result ≡ option_and_then (λ times. get times sequence) (option_copied self.entry.times) }
     {
-        match self.times {
-            Some(times) => times.get(sequence),
-            None => None,
+        let Some(times) = self.times else {
+            return None;
+        };
+        match times.as_slice().get(number) {
+            Some(time) if time.sequence == sequence => Some(time),
+            _ => times.get(sequence),
         }
     }
 }
