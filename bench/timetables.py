@@ -1,5 +1,5 @@
 #!/usr/bin/env python3
-"""Seconds and peak memory of `rt_command check --timetable` at 0.1, 0.5 and 2 million stop times: timetables.py [PROGRAM].
+"""Seconds and peak memory of `rt_command check --timetable` at 0.1, 0.5, 2 and 12 million stop times: timetables.py [PROGRAM].
 
 The program is crates/rt_command/out/rt_command by default, as `rt run` in crates/rt_command builds it. The snapshot is
 examples/header.pb. Each row is the best of three runs; memory is the greatest resident size. The last rows are of a single
@@ -9,7 +9,7 @@ import os, tempfile
 from measuring import HERE, best, make, program
 
 SNAPSHOT = os.path.join(HERE, "../examples/header.pb")
-ROWS = [(100_000, ""), (500_000, ""), (2_000_000, ""), (100_000, "falling"), (500_000, "falling"), (2_000_000, "falling")]
+ROWS = [(100_000, ""), (500_000, ""), (2_000_000, ""), (12_000_000, ""), (100_000, "falling"), (500_000, "falling"), (2_000_000, "falling")]
 
 
 def main():

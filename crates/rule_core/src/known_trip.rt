@@ -14,7 +14,8 @@ pub(crate) struct KnownTrip<'a> {
 }
 
 impl<'a> KnownTrip<'a> {
-    /// The stop time at a stop_sequence. Most feeds have an update for each stop, so the one of this number is looked at first.
+    /// The stop time at a stop_sequence. Many feeds have an update for each stop of a trip, so the trip's stop time of a number,
+    /// from 0, is looked at first.
     pub fn at(self, sequence: u32, number: usize) -> Option<&'a StopTime>
         ensures { option_copied result ≡ option_and_then (λ times. get times sequence) (option_copied self.entry.times) }
     {
