@@ -51,7 +51,7 @@ pub struct MessageGroup {
 impl MessageGroup {
     pub fn new() -> MessageGroup {
         let errors = Listed::within_messages(ERRORS);
-        let others = Listed::new(OTHERS);
+        let others = Listed::on_relationships(OTHERS);
         MessageGroup {
             inner: Both::new(errors, others),
         }

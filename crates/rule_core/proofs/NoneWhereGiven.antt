@@ -65,10 +65,9 @@ module _ (t : Option Tables) (key : EntityKey) (e : Value entity) (stops : List 
     at_places : (rule : RuleId) (s : Slot) → settled_by rule true ≡ true → Gives s → found_below rule here key s (places_at e S31) ≡ []
     at_places rule s r g = subst (λ n. found_below rule here key s n ≡ []) (sym (update_places e stops k)) (below_all rule s r g (length stops) (omega arith))
 
-    pub related_clear : (related : Bool) → related ≡ list_all (λ stop. is_some stop.schedule_relationship) stops → Each (IsClear here key e) (when related ((W009, S34) ∷ []))
-    related_clear false h = tt
-    related_clear true h =
-        let given : Gives S34 = λ i stop there. ap is_given (sym (relationship e i stop (update_at e stops i stop k there))) ∙ given_number stop.schedule_relationship (each_has (λ s. is_some s.schedule_relationship) stops i stop (sym h) there) in
+    pub related_clear : list_all (λ stop. is_some stop.schedule_relationship) stops ≡ true → Each (IsClear here key e) ((W009, S34) ∷ [])
+    related_clear h =
+        let given : Gives S34 = λ i stop there. ap is_given (sym (relationship e i stop (update_at e stops i stop k there))) ∙ given_number stop.schedule_relationship (each_has (λ s. is_some s.schedule_relationship) stops i stop h there) in
         (at_places W009 S34 refl given, tt)
 
     pub sequenced_clear : (sequenced : Bool) → sequenced ≡ list_all (λ stop. is_some stop.stop_sequence) stops → Each (IsClear here key e) (when sequenced ((E009, S32) ∷ []))

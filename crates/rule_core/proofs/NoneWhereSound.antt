@@ -1,6 +1,6 @@
 -- Stop time updates that are sound break no rule within a message, apart from the one that wants their schedule_relationship.
 use Rattle.std.proofs.Common.{ap, arith}
-use Rattle.std.specs.Prelude.{◌≡◌, ℕ, zero, suc, Bool, true, false, not, ◌&&◌, ◌||◌, ◌-◌, [], ◌∷◌, Option, refl}
+use Rattle.std.specs.Prelude.{◌≡◌, ℕ, zero, suc, Bool, true, false, not, ◌&&◌, ◌||◌, ◌-◌, [], Option, refl}
 use Rattle.feed_values.specs.Schema.{Value}
 use Rattle.feed_values.specs.Messages.{entity}
 use Rattle.feed_values.specs.Cells.{entity_cell}
@@ -13,14 +13,13 @@ use Rattle.rule_core.specs.declared.ask.Ask.TheVariants as ask
 use Rattle.rule_core.specs.declared.key.EntityKey.{EntityKey}
 use Rattle.rule_core.specs.declared.place.Place.TheVariants as place
 use Rattle.rule_core.specs.declared.rule.RuleId.{RuleId}
-use Rattle.rule_core.specs.declared.rule.RuleId.TheVariants.{E001, E002, E022, E025, E036, E037, E040, E042, E043, E044, W009}
+use Rattle.rule_core.specs.declared.rule.RuleId.TheVariants.{E001, E002, E022, E025, E036, E037, E040, E042, E043, E044}
 use Rattle.rule_core.specs.declared.clear.Clear.TheVariants as clear
 use Rattle.rule_core.specs.Answered.{local_answer}
 use Rattle.rule_core.specs.Passed.{given_or, is_given, is_number}
 use Rattle.rule_core.specs.CitedLaws.{both_same}
 use Rattle.rule_core.specs.Judged.{found_at, found_below, places_at}
-use Rattle.rule_core.specs.Clear.{AreClear, IsClear, when}
-use Rattle.rule_core.specs.Groups.{Each}
+use Rattle.rule_core.specs.Clear.{AreClear}
 use Rattle.rule_core.specs.Sound.{no_time, at_most, below, equal, IsSound, Follows, SoundBelow}
 use Rattle.rule_core.proofs.NoneThere.{after, none_found}
 
@@ -157,8 +156,8 @@ module _ (t : Option Tables) (key : EntityKey) (e : Value entity) where
   below_all rule s h zero k = refl
   below_all rule s h (suc n) k = both_same (below_all rule s h n k.0) (h n k.1)
 
-  pub all_clear : SoundBelow e (places_at e S31) → (related : Bool) → Each (IsClear here key e) (when related ((W009, S34) ∷ [])) → AreClear here key e (clear.Sound related)
-  all_clear k related more = (
+  pub all_clear : SoundBelow e (places_at e S31) → AreClear here key e clear.Sound
+  all_clear k = (
     below_all E001 S37 (λ i h. no_E001_arrival i h.1) (places_at e S37) k,
     (
       below_all E001 S40 (λ i h. no_E001_departure i h.1) (places_at e S40) k,
@@ -184,7 +183,7 @@ module _ (t : Option Tables) (key : EntityKey) (e : Value entity) where
                           below_all E044 S35 (λ i h. no_E044_arrival i h.1) (places_at e S35) k,
                           (
                             below_all E044 S38 (λ i h. no_E044_departure i h.1) (places_at e S38) k,
-                            more,
+                            tt,
                           ),
                         ),
                       ),

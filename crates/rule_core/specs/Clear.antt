@@ -26,10 +26,11 @@ abbrev pub when : {A : Type 0} → Bool → List A → List A
 when true l = l
 when false l = []
 
--- one more is clear where each gives its schedule_relationship, and one where each gives its stop_sequence
+-- one is clear where each gives its schedule_relationship, and one more where each gives its stop_sequence
 abbrev pub cleared : Clear → List (RuleId × Slot)
 cleared clear.Nowhere = []
-cleared (clear.Sound related) = where_sound ++ when related ((W009, S34) ∷ [])
+cleared clear.Sound = where_sound
+cleared clear.Related = (W009, S34) ∷ []
 cleared (clear.Kept sequenced) = where_kept ++ when sequenced ((E009, S32) ∷ [])
 
 -- a rule has no findings at a slot of an entity

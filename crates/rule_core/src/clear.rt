@@ -20,6 +20,8 @@ pub(crate) enum Look {
     Nothing,
     /// Whether each is sound.
     Soundness,
+    /// Whether each gives its schedule_relationship.
+    Relationships,
     /// Whether each keeps to the timetable.
     Timetable,
 }
@@ -29,9 +31,11 @@ pub(crate) enum Look {
 pub(crate) enum Clear {
     /// Nothing.
     Nowhere,
-    /// Each is sound: it breaks no rule within the message, by itself and after the one before it. Many feeds leave out the
-    /// schedule_relationship of updates, so whether each gives one is told beside.
-    Sound(bool),
+    /// Each is sound: it breaks no rule within the message, by itself and after the one before it. That each gives a
+    /// schedule_relationship isn't asked.
+    Sound,
+    /// Each gives its schedule_relationship.
+    Related,
     /// Each keeps to the timetable; and whether each gives a stop_sequence.
     Kept(bool),
 }
@@ -65,7 +69,8 @@ impl Look {
             return Clear::Nowhere;
         }
         match self {
-            Look::Soundness if are_sound(entity, stops) => Clear::Sound(are_related(stops)),
+            Look::Soundness if are_sound(entity, stops) => Clear::Sound,
+            Look::Relationships if are_related(stops) => Clear::Related,
             Look::Timetable if table.is_present() && keep(table, entity, stops) => {
                 Clear::Kept(are_sequenced(stops))
             }
@@ -80,13 +85,13 @@ impl Clear {
         ensures { result ≡ true → IsAmong (rule, slot) (cleared self) }
     {
         match (self, rule, slot) {
-            (Clear::Sound(_), RuleId::E001, Slot::S37 | Slot::S40) => true,
-            (Clear::Sound(_), RuleId::E002 | RuleId::E036, Slot::S32) => true,
-            (Clear::Sound(_), RuleId::E022 | RuleId::E040 | RuleId::E043, Slot::S31) => true,
-            (Clear::Sound(_), RuleId::E025, Slot::S40) => true,
-            (Clear::Sound(_), RuleId::E037, Slot::S33) => true,
-            (Clear::Sound(_), RuleId::E042 | RuleId::E044, Slot::S35 | Slot::S38) => true,
-            (Clear::Sound(related), RuleId::W009, Slot::S34) => related,
+            (Clear::Sound, RuleId::E001, Slot::S37 | Slot::S40) => true,
+            (Clear::Sound, RuleId::E002 | RuleId::E036, Slot::S32) => true,
+            (Clear::Sound, RuleId::E022 | RuleId::E040 | RuleId::E043, Slot::S31) => true,
+            (Clear::Sound, RuleId::E025, Slot::S40) => true,
+            (Clear::Sound, RuleId::E037, Slot::S33) => true,
+            (Clear::Sound, RuleId::E042 | RuleId::E044, Slot::S35 | Slot::S38) => true,
+            (Clear::Related, RuleId::W009, Slot::S34) => true,
             (Clear::Kept(_), RuleId::E011 | RuleId::E015 | RuleId::E045, Slot::S33) => true,
             (Clear::Kept(_), RuleId::E046, Slot::S35 | Slot::S38) => true,
             (Clear::Kept(_), RuleId::E051, Slot::S32) => true,

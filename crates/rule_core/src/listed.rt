@@ -49,6 +49,18 @@ impl Listed {
         }
     }
 
+    /// The same rules, judged after a look at whether each stop time update of an entity gives its schedule_relationship: the
+    /// one that wants it isn't judged at each one where they all do.
+    pub fn on_relationships(rules: &'static [RuleId]) -> Listed
+        requires { are_apart rules.now ≡ true }
+        ensures { result.rules.now ≡ rules.now }
+    {
+        Listed {
+            rules,
+            looks_for: Look::Relationships,
+        }
+    }
+
     /// The same rules, judged after a look at whether the stop time updates of an entity keep to the timetable: those against
     /// it aren't judged at each one where they all do.
     pub fn against_timetable(rules: &'static [RuleId]) -> Listed

@@ -35,4 +35,10 @@ returns-in-Soundness c key =
     let stops = c.as_slice-stops.result.now in
     let updates = held_updates c.args.entity.now c.in-Some.update stops c.in-Some.is (sym c.as_slice-stops.ensures) in
     let sound_there = subst (SoundBelow e) (sym (update_places e stops updates)) (search rules) in
-    sound.all_clear (tables_of c.args.table.now) key e sound_there c.are_related.result (related_clear (tables_of c.args.table.now) key e stops updates c.are_related.result c.are_related.ensures)
+    sound.all_clear (tables_of c.args.table.now) key e sound_there
+
+pub returns-in-Relationships : goal.returns-in-Relationships
+returns-in-Relationships c key =
+    let stops = c.as_slice-stops.result.now in
+    let updates = held_updates c.args.entity.now c.in-Some.update stops c.in-Some.is (sym c.as_slice-stops.ensures) in
+    related_clear (tables_of c.args.table.now) key (entity_value c.args.entity.now) stops updates (search rules)
