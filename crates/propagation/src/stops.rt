@@ -57,8 +57,8 @@ impl<'a> Stops<'a> {
         Visit {
             stop: self.table.stop_text(time.stop),
             sequence: time.sequence,
-            arrival: time.arrival,
-            departure: time.departure,
+            arrival: time.arrival.get(),
+            departure: time.departure.get(),
         }
     }
 

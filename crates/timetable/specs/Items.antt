@@ -1,7 +1,8 @@
 -- The rows of each file: GTFS Schedule Reference, "Field Definitions". Each column is read in the file's order.
 use Rattle.std.specs.Prelude.{ℕ, ◌+◌, ◌*◌, List, [], ◌∷◌, Bool, false, Option, Some, None, Result, Ok, if◌then◌else◌}
 use Rattle.timetable.specs.Cells.{Cells, any_text, cell, filled, optional, then_with}
-use Rattle.timetable.specs.Values.{calendar_day, change_of, clock_time, flag_of, headway_of, location_type_of, sequence_of}
+use Rattle.rt_day.specs.Time.{time_of}
+use Rattle.timetable.specs.Values.{calendar_day, change_of, flag_of, headway_of, location_type_of, sequence_of}
 use Rattle.timetable.specs.declared.column.Column.{Column}
 use Rattle.timetable.specs.declared.column.Column.TheVariants as col
 use Rattle.timetable.specs.declared.fault.CellFault.{CellFault}
@@ -16,7 +17,6 @@ use Rattle.timetable.specs.declared.visit.Visit.{Visit}
 use Rattle.timetable.specs.declared.row.Row.{Row}
 use Rattle.timetable.specs.declared.flag.Flag.{Flag}
 use Rattle.timetable.specs.declared.location_type.LocationType.{LocationType}
-use Rattle.timetable.specs.declared.time.Time.{Time}
 
 -- agency.txt: the id may be blank
 abbrev pub agency_row : Cells → Result (Row Agency) CellFault
@@ -56,19 +56,15 @@ trip_row cells =
     then_with (cell (optional flag_of) col.DirectionId cells) (λ direction.
     Ok (record { id = id; item = record { route = route; service = service; direction = direction_of direction } })))))
 
-abbrev pub seconds_of : Option Time → Option ℕ
-seconds_of None = None
-seconds_of (Some time) = Some time.0
-
 -- stop_times.txt: trip id and stop id may be blank
 abbrev pub visit_row : Cells → Result (Row Visit) CellFault
 visit_row cells =
     then_with (cell any_text col.TripId cells) (λ id.
-    then_with (cell (optional clock_time) col.ArrivalTime cells) (λ arrival.
-    then_with (cell (optional clock_time) col.DepartureTime cells) (λ departure.
+    then_with (cell (optional time_of) col.ArrivalTime cells) (λ arrival.
+    then_with (cell (optional time_of) col.DepartureTime cells) (λ departure.
     then_with (cell any_text col.StopId cells) (λ stop.
     then_with (cell sequence_of col.StopSequence cells) (λ sequence.
-    Ok (record { id = id; item = record { stop = stop; sequence = sequence.0; arrival = seconds_of arrival; departure = seconds_of departure } }))))))
+    Ok (record { id = id; item = record { stop = stop; sequence = sequence.0; arrival = arrival; departure = departure } }))))))
 
 -- the bits so far, with the next one where a service runs on its day
 abbrev pub with_bit : (done bit : ℕ) → Bool → ℕ
@@ -110,8 +106,8 @@ flag_or_0 (Some flag) = flag.0
 abbrev pub frequency_row : Cells → Result (Row Frequency) CellFault
 frequency_row cells =
     then_with (cell any_text col.TripId cells) (λ id.
-    then_with (cell clock_time col.StartTime cells) (λ start.
-    then_with (cell clock_time col.EndTime cells) (λ end.
+    then_with (cell time_of col.StartTime cells) (λ start.
+    then_with (cell time_of col.EndTime cells) (λ end.
     then_with (cell headway_of col.HeadwaySecs cells) (λ headway.
     then_with (cell (optional flag_of) col.ExactTimes cells) (λ exact.
-    Ok (record { id = id; item = record { start = start.0; end = end.0; headway = headway.0; exact = flag_or_0 exact } }))))))
+    Ok (record { id = id; item = record { start = start; end = end; headway = headway.0; exact = flag_or_0 exact } }))))))

@@ -7,6 +7,7 @@ pub mod Headers
 pub mod Texts
 pub mod Cells
 pub mod Values
+pub mod OptionalTimes
 pub mod Items
 pub mod Maps
 pub mod Groups

@@ -1,5 +1,5 @@
 -- Timetables as finite maps.
-use Rattle.std.specs.Prelude.{◌≡◌, ◌<◌, ◌↔◌, ◌==◌, ◌||◌, ◌++◌, ℕ, List, [], ◌∷◌, Bool, false, length, map, slice_index_or, IsTrue, Some, option_map, Result, Ok, unwrap_or}
+use Rattle.std.specs.Prelude.{◌≡◌, ◌<◌, ◌↔◌, ◌==◌, ◌||◌, ◌++◌, ℕ, List, [], ◌∷◌, Bool, false, length, map, slice_get, slice_index_or, IsTrue, Option, Some, None, option_map, Result, Ok, unwrap_or}
 use Rattle.std.specs.List.{list_any}
 use Rattle.std.specs.FinMap.{empty, entries, get}
 use Rattle.rt_outside.specs.Store.{Contents}
@@ -115,6 +115,15 @@ pub record StopsTwice (table : StopTable) (id : Text) : Type 0 where
 abbrev pub TellsReturns : Type 0
 TellsReturns = (bytes : List ℕ) (table : StopTable) (id : Text) → table_in visits bytes ≡ Ok table
     → IsTrue (visits_twice (trip_times table id)) ↔ StopsTwice table id
+
+-- the location type of a stop, None where stops.txt doesn't have it
+abbrev pub kind_in : ByText (Only Stop) → Text → Option ℕ
+kind_in stops id = option_map (λ only. only.item.kind) (get stops id)
+
+-- for each stop, by number, its location type
+pub record KnowsKinds (stops : ByText (Only Stop)) (ids : List Text) (kinds : List (Option ℕ)) : Type 0 where
+  pub size : length kinds ≡ length ids
+  pub known : (n : ℕ) (id : Text) → slice_get ids n ≡ Some id → slice_index_or kinds n None ≡ kind_in stops id
 
 -- for each trip, by number, whether it visits some stop twice
 pub record KnowsTwice (trips : List (Text × Only Trip)) (table : StopTable) (twice : List Bool) : Type 0 where

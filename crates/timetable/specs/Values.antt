@@ -4,14 +4,12 @@ use Rattle.std.specs.Prelude.{ℕ, ◌^◌, List, true, false, codes, nat_le, na
 use Rattle.std.specs.Str.{bytes_eq}
 use Rattle.rt_day.specs.Date.{date_of}
 use Rattle.rt_day.specs.Digits.{number_of}
-use Rattle.rt_day.specs.Time.{time_of}
 use Rattle.rt_day.specs.declared.day.Day.{Day}
 use Rattle.timetable.specs.declared.change.Change.{Change}
 use Rattle.timetable.specs.declared.flag.Flag.{Flag}
 use Rattle.timetable.specs.declared.headway.Headway.{Headway}
 use Rattle.timetable.specs.declared.location_type.LocationType.{LocationType}
 use Rattle.timetable.specs.declared.sequence.Sequence.{Sequence}
-use Rattle.timetable.specs.declared.time.Time.{Time}
 
 -- 0 or 1
 abbrev pub flag_of : List ℕ → Option Flag
@@ -38,10 +36,6 @@ sequence_of text = option_and_then (λ n. if nat_lt n (2 ^ 32) then Some (record
 -- one to six digits, and at least 1
 abbrev pub headway_of : List ℕ → Option Headway
 headway_of text = option_and_then (λ n. if nat_le 1 n then Some (record { 0 = n }) else None) (number_of 1 6 text)
-
--- a time, in seconds
-abbrev pub clock_time : List ℕ → Option Time
-clock_time text = option_map (λ n. record { 0 = n }) (time_of text)
 
 -- a date, as its day
 abbrev pub calendar_day : List ℕ → Option Day

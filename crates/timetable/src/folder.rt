@@ -39,12 +39,18 @@ pub(crate) trait Source: Sized {
 
     ghost read: { Self → Type 0 };
 
-    /// Reads the files from a folder, none of more than `limit` bytes.
+    /// How many ids the table after it may have too, 0 where nothing is known.
+    fn ids(&self) -> usize {
+        0
+    }
+
+    /// Reads the files from a folder, none of more than `limit` bytes. `awaited` is `ids` of the table before.
     fn load<F: Files>(
         alloc: Global,
         files: &mut F,
         folder: &str,
         limit: usize,
+        awaited: usize,
     ) -> Result<Self, LoadFault>
         ensures tables { IfSome (contents_told (F.state files.old).told)
             (λ contents. Answers (tables limit folder.now contents) result) }
@@ -73,8 +79,9 @@ where
         files: &mut F,
         folder: &str,
         limit: usize,
+        awaited: usize,
     ) -> Result<Grouped<G>, LoadFault> {
-        load_table(alloc, files, folder, limit)
+        load_table(alloc, files, folder, limit, awaited)
     }
 }
 
@@ -86,13 +93,18 @@ impl Source for Trips {
 
     ghost read = { IsRead trips };
 
+    fn ids(&self) -> usize {
+        self.len()
+    }
+
     fn load<F: Files>(
         alloc: Global,
         files: &mut F,
         folder: &str,
         limit: usize,
+        awaited: usize,
     ) -> Result<Trips, LoadFault> {
-        load_table(alloc, files, folder, limit)
+        load_table(alloc, files, folder, limit, awaited)
     }
 }
 
@@ -109,8 +121,9 @@ impl Source for StopTimes {
         files: &mut F,
         folder: &str,
         limit: usize,
+        awaited: usize,
     ) -> Result<StopTimes, LoadFault> {
-        let visits: Visits = load_table(alloc, files, folder, limit)?;
+        let visits: Visits = load_table(alloc, files, folder, limit, awaited)?;
         Ok(visits.settled(alloc)?)
     }
 }
@@ -127,9 +140,10 @@ impl<A: Source + Drop, B: Source + Drop> Source for (A, B) {
         files: &mut F,
         folder: &str,
         limit: usize,
+        awaited: usize,
     ) -> Result<(A, B), LoadFault> {
-        let first = A::load(alloc, files, folder, limit)?;
-        let second = B::load(alloc, files, folder, limit)?;
+        let first = A::load(alloc, files, folder, limit, awaited)?;
+        let second = B::load(alloc, files, folder, limit, first.ids())?;
         Ok((first, second))
     }
 }
@@ -140,6 +154,7 @@ pub(crate) fn load_table<F: Files, T: Table + Drop>(
     files: &mut F,
     folder: &str,
     limit: usize,
+    awaited: usize,
 ) -> Result<T, LoadFault>
     ensures table { IfSome (contents_told (F.state files.old).told)
         (λ contents. Answers (table_of_file T.format limit folder.now contents) result) }
@@ -153,7 +168,7 @@ pub(crate) fn load_table<F: Files, T: Table + Drop>(
 {
     let name = path(alloc, folder, T::file())?;
     match read_whole(alloc, files, name.as_str(), limit) {
-        Ok(bytes) => read_table(alloc, bytes.as_slice()),
+        Ok(bytes) => read_table(alloc, bytes.as_slice(), awaited),
         Err(ReadEnd::Absent) => absent_table(alloc),
         Err(ReadEnd::TooLarge) => Err(LoadFault::TooLarge(T::file())),
         Err(ReadEnd::ReadFault) => Err(LoadFault::ReadFault(T::file())),

@@ -35,8 +35,8 @@ impl Item for Frequency {
 
     fn read(alloc: Global, cells: &Cells<'_>) -> Result<Row<Frequency>, CellFault> {
         let id = cells.id(alloc, Column::TripId)?;
-        let Time(start) = cells.value(Column::StartTime)?;
-        let Time(end) = cells.value(Column::EndTime)?;
+        let start = cells.value::<Time>(Column::StartTime)?.seconds();
+        let end = cells.value::<Time>(Column::EndTime)?.seconds();
         let Headway(headway) = cells.value(Column::HeadwaySecs)?;
         let exact = match cells.value::<Option<Flag>>(Column::ExactTimes)? {
             Some(Flag(exact)) => exact,

@@ -58,6 +58,19 @@ impl<G: Drop> Grouped<G> {
         }
     }
 
+    /// The map without groups, with room for those of so many ids.
+    pub fn with_room(alloc: Global, ids: usize) -> Result<Grouped<G>, AllocError>
+        ensures { IfOk result (λ groups. groups ≡ map.empty) }
+    {
+        let groups = IndexMap::with_capacity(alloc, ids)?;
+        Ok(Grouped { groups })
+    }
+
+    /// How many ids there are.
+    pub fn len(&self) -> usize {
+        self.groups.len()
+    }
+
     /// What stands under an id.
     pub fn get(&self, id: &str) -> Option<&G>
         ensures { option_copied result ≡ map.get self.now id.now }

@@ -11,8 +11,9 @@
 //! and each file's is an item: `agency`, `stop`, `route`, `trip`, `visit`, `service_row`, `exception`,
 //! `frequency`; `grouped` holds rows by id, `exceptions`, `frequencies`, `stop_ids` and `numbered` what
 //! stands under it, `shared_ids` and `trips` trips while they are read, `late_times`, `trip_rows` and `visits`
-//! stop times while they are read, `trip_times` and `stop_times` from then on; `table` reads a file and `folder` several; `twice` and `timetable` are the whole. `laws`
-//! says what the tables hold in words of their rows.
+//! stop times while they are read, `trip_times` and `stop_times` from then on, with `optional_time` in each;
+//! `table` reads a file and `folder` several; `twice`, `kinds` and `timetable` are the whole. `laws` says what
+//! the tables hold in words of their rows.
 #![tactic(auto)]
 
 mod agency;
@@ -32,10 +33,12 @@ mod grouped;
 mod header;
 mod headway;
 mod id;
+mod kinds;
 mod late_times;
 mod laws;
 mod location_type;
 mod numbered;
+mod optional_time;
 mod records;
 mod route;
 mod row;
@@ -63,6 +66,7 @@ pub use fault::LoadFault;
 pub use file::File;
 pub use frequency::Frequency;
 pub use laws::{tables_follow_their_rows, visits_twice_follows_its_stops};
+pub use optional_time::OptionalTime;
 pub use records::Records;
 pub use service_row::ServiceRow;
 pub use stop_time::StopTime;

@@ -47,11 +47,18 @@ impl StopIds {
         Ok(number as u32)
     }
 
+    /// How many ids there are.
+    pub fn len(&self) -> usize
+        ensures { result ≡ length self.now }
+    {
+        self.ids.len()
+    }
+
     /// The id of a number.
-    pub fn text(&self, number: u32) -> &str
+    pub fn get(&self, number: usize) -> &str
         requires { number < length self.now }
         ensures { slice_get self.now number ≡ Some result.now }
     {
-        self.ids.get_index(number as usize).unwrap().as_str()
+        self.ids.get_index(number).unwrap().as_str()
     }
 }

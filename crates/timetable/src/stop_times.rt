@@ -1,6 +1,6 @@
 //! The stop times of all trips.
 
-ghost use Rattle.std.specs.Prelude.{◌≡◌, ◌<◌, Some, length, option_copied, slice_get};
+ghost use Rattle.std.specs.Prelude.{◌≡◌, option_copied};
 ghost use Rattle.std.specs.FinMap as map;
 
 use crate::grouped::Grouped;
@@ -39,11 +39,10 @@ impl StopTimes {
         self.times.get(trip)
     }
 
-    /// The id of a stop by its number.
-    pub fn stop_text(&self, stop: u32) -> &str
-        requires { stop < length self.now.stops }
-        ensures { slice_get self.now.stops stop ≡ Some result.now }
+    /// The ids of the stops.
+    pub fn stops(&self) -> &StopIds
+        ensures { result.now ≡ self.now.stops }
     {
-        self.stops.text(stop)
+        &self.stops
     }
 }

@@ -40,6 +40,13 @@ pub(crate) trait Table: Sized {
     fn empty(alloc: Global) -> Self
         ensures { result ≡ format.empty };
 
+    /// The table without rows, where so many ids are awaited. That may save memory, and no clause speaks of it.
+    fn awaiting(alloc: Global, _ids: usize) -> Result<Self, AllocError>
+        ensures { IfOk result (λ table. table ≡ format.empty) }
+    {
+        Ok(Self::empty(alloc))
+    }
+
     /// Reads the cells of a row, in the order of the file's columns.
     fn read(alloc: Global, cells: &Cells<'_>) -> Result<Self::Row, CellFault>
         ensures ok { IfOk result (λ row. format.row_of (cells_of cells.now.header.now (fields_of cells.now.row.now)) ≡ Ok row) }
@@ -140,12 +147,13 @@ fn read_rows<T: Table + Drop>(
     alloc: Global,
     header: &Header,
     mut rows: Records<'_>,
+    awaited: usize,
 ) -> Result<T, LoadFault>
     requires { length rows < 2 ^ 63 + 1 }
     ensures ok { IfOk result (λ table. rows_from T.format header.now 2 T.format.empty rows.entry ≡ Ok table) }
     ensures err { IfErr result (λ e. e ≢ fault.Memory → rows_from T.format header.now 2 T.format.empty rows.entry ≡ Err e) }
 {
-    let mut table = T::empty(alloc);
+    let mut table = T::awaiting(alloc, awaited)?;
     let mut number = 2;
     while let Some(row) = rows.next()? {
         let cells = Cells { header, row: &row };
@@ -155,8 +163,12 @@ fn read_rows<T: Table + Drop>(
     Ok(table)
 }
 
-/// Reads a file that is held in memory.
-pub(crate) fn read_table<T: Table + Drop>(alloc: Global, bytes: &[u8]) -> Result<T, LoadFault>
+/// Reads a file that is held in memory, where `awaited` ids are awaited.
+pub(crate) fn read_table<T: Table + Drop>(
+    alloc: Global,
+    bytes: &[u8],
+    awaited: usize,
+) -> Result<T, LoadFault>
     ensures ok { IfOk result (λ table. table_in T.format bytes.now ≡ Ok table) }
     ensures err { IfErr result (λ e. e ≢ fault.Memory → table_in T.format bytes.now ≡ Err e) }
 {
@@ -168,7 +180,7 @@ pub(crate) fn read_table<T: Table + Drop>(alloc: Global, bytes: &[u8]) -> Result
     if let Some(column) = missing_column(T::file(), &header) {
         return Err(LoadFault::MissingColumn(T::file(), column));
     }
-    read_rows(alloc, &header, rows)
+    read_rows(alloc, &header, rows, awaited)
 }
 
 /// The table of a file that is absent.

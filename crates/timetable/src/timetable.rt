@@ -8,7 +8,7 @@ ghost use Rattle.timetable.specs.Folders.{path};
 ghost use Rattle.timetable.specs.Maps.{Text};
 ghost use Rattle.timetable.specs.Stops.{HaveStops, stop_time_at};
 ghost use Rattle.timetable.specs.Times.{keyed};
-ghost use Rattle.timetable.specs.Timetables.{KnowsTwice};
+ghost use Rattle.timetable.specs.Timetables.{KnowsKinds, KnowsTwice};
 ghost use Rattle.timetable.specs.declared.fault.LoadFault.TheVariants as fault;
 ghost use Rattle.timetable.specs.declared.file.File.{File};
 
@@ -19,6 +19,7 @@ use crate::folder::Source;
 use crate::frequencies::Frequencies;
 use crate::frequency::Frequency;
 use crate::grouped::{Grouped, Only};
+use crate::kinds::{kind, kinds_by_number};
 use crate::numbered::Numbered;
 use crate::route::Route;
 use crate::service_row::ServiceRow;
@@ -73,8 +74,10 @@ struct HeldTables {
     exceptions: Grouped<Exceptions>,
     frequencies: Grouped<Frequencies>,
     twice: Vec<bool>,
+    kinds: Vec<Option<u32>>,
     ghost have_stops: { HaveStops stop_times },
     ghost knows_twice: { KnowsTwice trips stop_times twice.items },
+    ghost knows_kinds: { KnowsKinds stops stop_times.stops kinds.items },
 }
 
 /// The tables of the files in the order in which they are read.
@@ -131,7 +134,7 @@ impl Timetable {
         ensures asked { (file : File) → result ≡ Err (fault.ReadFault file)
             → IfSome (F.state files.new).asked (λ last. last ≡ path folder.now file) }
     {
-        let loaded = Loaded::load(alloc, files, folder, LIMIT)?;
+        let loaded = Loaded::load(alloc, files, folder, LIMIT, 0)?;
         Ok(Timetable::with_tables(alloc, loaded)?)
     }
 
@@ -144,6 +147,7 @@ impl Timetable {
         let (services, (exceptions, frequencies)) = rest;
         let trips = trips.into_numbered();
         let twice = trips_that_return(alloc, &trips, &stop_times)?;
+        let kinds = kinds_by_number(alloc, &stops, stop_times.stops())?;
         let held = HeldTables {
             agencies,
             stops,
@@ -154,6 +158,7 @@ impl Timetable {
             exceptions,
             frequencies,
             twice,
+            kinds,
         };
         Ok(Timetable {
             tables: Some(Box::new(alloc, held)?),
@@ -208,12 +213,8 @@ impl Timetable {
     pub fn stop_kind(&self, id: &str) -> Option<u32>
         ensures { result ≡ option_map (λ only. only.item.kind) (map.get (tables_in self.now).stops id.now) }
     {
-        let held = match &self.tables {
-            Some(held) => held,
-            None => return None,
-        };
-        match held.stops.get(id) {
-            Some(only) => Some(only.item.kind),
+        match &self.tables {
+            Some(held) => kind(&held.stops, id),
             None => None,
         }
     }
@@ -289,7 +290,17 @@ impl Timetable {
         requires { IsStop self.now stop }
         ensures { slice_get (tables_in self.now).stop_times.stops stop ≡ Some result.now }
     {
-        self.held().stop_times.stop_text(stop)
+        self.held().stop_times.stops().get(stop as usize)
+    }
+
+    /// The location type of a stop time's stop by its number, without a look-up of its id: what `stop_kind` answers
+    /// for `stop_text`.
+    pub fn kind_of_stop(&self, stop: u32) -> Option<u32>
+        requires { IsStop self.now stop }
+        ensures { (id : Text) → slice_get (tables_in self.now).stop_times.stops stop ≡ Some id
+            → result ≡ option_map (λ only. only.item.kind) (map.get (tables_in self.now).stops id) }
+    {
+        self.held().kinds[stop as usize]
     }
 
     /// Whether two stop times of a trip have one stop.

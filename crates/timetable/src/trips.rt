@@ -35,6 +35,11 @@ impl Model for Trips {
 }
 
 impl Trips {
+    /// How many trips there are.
+    pub fn len(&self) -> usize {
+        self.trips.len()
+    }
+
     /// The same trips by number.
     pub fn into_numbered(self) -> Numbered<Only<Trip>>
         ensures { map_of result ≡ self }

@@ -53,7 +53,7 @@ fn settled(
 ) -> Result<IndexMap<String, TripTimes>, AllocError>
     ensures { IfOk result (λ settled. settled.entries ≡ trips.entries) }
 {
-    let mut settled = IndexMap::new(alloc);
+    let mut settled = IndexMap::with_capacity(alloc, trips.len())?;
     for (id, rows) in trips {
         let times = rows.settled(alloc)?;
         settled.insert(id, times)?;
@@ -77,6 +77,13 @@ impl Table for Visits {
             stops: StopIds::new(alloc),
             times: Grouped::new(alloc),
         }
+    }
+
+    fn awaiting(alloc: Global, ids: usize) -> Result<Visits, AllocError> {
+        Ok(Visits {
+            stops: StopIds::new(alloc),
+            times: Grouped::with_room(alloc, ids)?,
+        })
     }
 
     fn read(alloc: Global, cells: &Cells<'_>) -> Result<Row<Visit>, CellFault> {

@@ -22,7 +22,7 @@ fn first_given(times: &[StopTime]) -> Option<u32>
     ensures { result ≡ first_given times.now }
 {
     for time in times {
-        let given = time.arrival.or(time.departure);
+        let given = time.arrival.get().or(time.departure.get());
         if given.is_some() {
             return given;
         }

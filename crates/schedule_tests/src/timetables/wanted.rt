@@ -31,8 +31,9 @@ fn expect_time(rt: &impl Abort, table: &Timetable, time: &StopTime, want: Time)
     let (sequence, stop, arrival, departure) = want;
     assert_eq!(rt; time.sequence, sequence);
     assert!(rt; table.stop_text(time.stop) == stop);
-    assert_eq!(rt; time.arrival, Some(arrival));
-    assert_eq!(rt; time.departure, Some(departure));
+    assert_eq!(rt; table.kind_of_stop(time.stop), table.stop_kind(stop));
+    assert_eq!(rt; time.arrival.get(), Some(arrival));
+    assert_eq!(rt; time.departure.get(), Some(departure));
 }
 
 /// The stop times as a list.
