@@ -5,13 +5,13 @@ ghost use Rattle.feed_values.specs.Messages.{alert, time_range, entity_selector}
 ghost use Rattle.feed_values.specs.Views.{alert_value, time_range_value, entity_selector_value};
 
 use crate::checking::{Checked, check_message, check_text};
-use crate::message::{Message, merge_optional, push_repeated};
+use crate::message::{Message, merge_boxed, merge_optional, push_boxed, push_repeated};
 use crate::refusal::Refusal;
 use crate::room::room_for;
 use crate::stopped::Stopped;
 use crate::taking::{take_enum, take_i32, take_text, take_u64};
 use feed_values::{
-    Alert, EntitySelector, Items, TimeRange, TranslatedString, TripDescriptor, Unknown,
+    Alert, Blank, EntitySelector, Items, TimeRange, TranslatedString, TripDescriptor, Unknown,
 };
 use rt_wire::RawField;
 use std::alloc::{AllocError, Global};
@@ -59,7 +59,7 @@ impl Message for Alert {
     fn merge_slot(&mut self, alloc: Global, field: &RawField<'_>) -> Result<bool, Stopped> {
         match field.number {
             1 => push_repeated(alloc, &mut self.active_period, &field.value),
-            5 => push_repeated(alloc, &mut self.informed_entity, &field.value),
+            5 => push_boxed(alloc, &mut self.informed_entity, &field.value),
             6 => Ok(take_enum(&mut self.cause, &field.value, 1, 12)),
             7 => Ok(take_enum(&mut self.effect, &field.value, 1, 9)),
             8 => merge_optional(alloc, &mut self.url, &field.value),
@@ -131,14 +131,7 @@ impl Message for EntitySelector {
     ghost value = { entity_selector_value };
 
     fn empty(alloc: Global) -> EntitySelector {
-        EntitySelector {
-            agency_id: None,
-            route_id: None,
-            route_type: None,
-            trip: None,
-            stop_id: None,
-            unknown: Items::new(alloc),
-        }
+        EntitySelector::blank(alloc)
     }
 
     #[tactic(auto, unfolding(crate::specs::Merging::with_fields))]
@@ -147,7 +140,7 @@ impl Message for EntitySelector {
             1 => take_text(alloc, &mut self.agency_id, &field.value),
             2 => take_text(alloc, &mut self.route_id, &field.value),
             3 => Ok(take_i32(&mut self.route_type, &field.value)),
-            4 => merge_optional(alloc, &mut self.trip, &field.value),
+            4 => merge_boxed(alloc, &mut self.trip, &field.value),
             5 => take_text(alloc, &mut self.stop_id, &field.value),
             _ => Ok(false),
         }

@@ -22,7 +22,7 @@ mod trip_update;
 mod vehicle_position;
 
 use crate::message::Message;
-use feed_values::{Items, Text, Unknown, UnknownValue};
+use feed_values::{Blank, Boxed, Items, Text, Unknown, UnknownValue};
 use rt_wire::{RawValue, put_field};
 use std::alloc::{AllocError, Global};
 
@@ -183,6 +183,60 @@ pub fn put_optional<M: Encode>(
         Some(message) => put_message(alloc, out, number, message),
         None => Ok(()),
     }
+}
+
+/// The same of a message in a box.
+pub fn put_message_in_box<M: Encode + Blank>(
+    alloc: Global,
+    out: &mut Vec<u8>,
+    number: u32,
+    boxed: &Boxed<M>,
+) -> Result<(), AllocError>
+    requires some { 1 ≤ number }
+    requires small { number < 2 ^ 29 }
+    requires fits { IsWellFormed M.schema (M.value boxed.now) }
+    ensures { OnOk result (out.new.items ≡ out.old.items ++ spelled_slot number (Len (canonical M.schema (M.value boxed.now)))) }
+{
+    match boxed.get() {
+        Some(message) => put_message(alloc, out, number, message),
+        None => put_message(alloc, out, number, &M::blank(alloc)),
+    }
+}
+
+pub fn put_boxed<M: Encode + Blank>(
+    alloc: Global,
+    out: &mut Vec<u8>,
+    number: u32,
+    held: &Option<Boxed<M>>,
+) -> Result<(), AllocError>
+    requires some { 1 ≤ number }
+    requires small { number < 2 ^ 29 }
+    requires fits { IfSome (option_map M.value held.now) (IsWellFormed M.schema) }
+    ensures { OnOk result (out.new.items ≡ out.old.items
+        ++ where_held (λ w. spelled_slot number (Len (canonical M.schema w))) (option_map M.value held.now)) }
+{
+    match held {
+        Some(boxed) => put_message_in_box(alloc, out, number, boxed),
+        None => Ok(()),
+    }
+}
+
+pub fn put_all_boxed<M: Encode + Blank>(
+    alloc: Global,
+    out: &mut Vec<u8>,
+    number: u32,
+    held: &Items<Boxed<M>>,
+) -> Result<(), AllocError>
+    requires some { 1 ≤ number }
+    requires small { number < 2 ^ 29 }
+    requires fits { AllByRecursion (IsWellFormed M.schema) (map M.value held.now) }
+    ensures { OnOk result (out.new.items ≡ out.old.items
+        ++ flat_map (λ w. spelled_slot number (Len (canonical M.schema w))) (map M.value held.now)) }
+{
+    for boxed in held.as_slice() {
+        put_message_in_box(alloc, out, number, boxed)?;
+    }
+    Ok(())
 }
 
 pub fn put_repeated<M: Encode>(

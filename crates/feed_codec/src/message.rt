@@ -12,7 +12,7 @@ ghost use Rattle.feed_codec.specs.Refusal.{first_in, in_payload};
 use crate::checking::Checked;
 use crate::stopped::Stopped;
 use crate::unknown::unknown_of;
-use feed_values::{Items, Unknown};
+use feed_values::{Blank, Boxed, Items, Unknown};
 use rt_wire::{Fields, RawField, RawValue};
 use std::alloc::{AllocError, Global};
 
@@ -100,6 +100,43 @@ pub fn merge_optional<M: Message>(
     Ok(true)
 }
 
+/// The same where the message is held in a box.
+pub fn merge_boxed<M: Message + Blank>(
+    alloc: Global,
+    held: &mut Option<Boxed<M>>,
+    value: &RawValue<'_>,
+) -> Result<bool, Stopped>
+    ensures value { TakenOr (merged_message Optional (with_fields M.schema) (blank M.schema) (value_of value.now) (option_map M.value held.old))
+        (option_map M.value held.old) (option_map M.value held.new) result }
+    ensures fine { IfOk result (λ _. NothingWrong (λ p. first_in (in_payload M.wrong) (placed_fields p)) (value_of value.now)) }
+{
+    let mut message = unboxed(alloc, held.take());
+    let taken = merge_optional(alloc, &mut message, value)?;
+    *held = boxed(alloc, message)?;
+    Ok(taken)
+}
+
+fn unboxed<M: Message + Blank>(alloc: Global, held: Option<Boxed<M>>) -> Option<M>
+    ensures { result ≡ held }
+{
+    match held {
+        Some(boxed) => Some(boxed.into_inner(alloc)),
+        None => None,
+    }
+}
+
+fn boxed<M: Message + Blank>(
+    alloc: Global,
+    message: Option<M>,
+) -> Result<Option<Boxed<M>>, AllocError>
+    ensures { IfOk result (λ held. held ≡ message) }
+{
+    match message {
+        Some(message) => Ok(Some(Boxed::new(alloc, message)?)),
+        None => Ok(None),
+    }
+}
+
 /// Takes the fields of a payload into the message of a required slot.
 #[tactic(auto, unfolding(crate::specs::Merging::with_fields))]
 pub fn merge_required<M: Message>(
@@ -141,6 +178,26 @@ pub fn push_repeated<M: Message>(
     let mut message = M::with_room(alloc, payload)?;
     merge(alloc, &mut message, payload)?;
     append(held, message)?;
+    Ok(true)
+}
+
+/// The same where the messages are held in boxes. A payload that gives nothing takes no memory beside its place.
+#[tactic(auto, unfolding(crate::specs::Merging::with_fields))]
+pub fn push_boxed<M: Message + Blank>(
+    alloc: Global,
+    held: &mut Items<Boxed<M>>,
+    value: &RawValue<'_>,
+) -> Result<bool, Stopped>
+    ensures value { TakenOr (merged_repeated (with_fields M.schema) (blank M.schema) (value_of value.now) (map M.value held.old))
+        (map M.value held.old) (map M.value held.new) result }
+    ensures fine { IfOk result (λ _. NothingWrong (λ p. first_in (in_payload M.wrong) (placed_fields p)) (value_of value.now)) }
+{
+    let RawValue::Len(payload) = *value else {
+        return Ok(false);
+    };
+    let mut message = M::with_room(alloc, payload)?;
+    merge(alloc, &mut message, payload)?;
+    append(held, Boxed::new(alloc, message)?)?;
     Ok(true)
 }
 

@@ -13,7 +13,7 @@ ghost use Rattle.feed_json.specs.Unform.{unform, slots_of, is_key, first_unknown
 
 use crate::json_fault::JsonFault;
 use crate::paths::{text_of, under, wrong_kind};
-use feed_values::{Items, Slots};
+use feed_values::{Blank, Boxed, Items, Slots};
 use serde_json::{Map, Value};
 use std::alloc::{AllocError, Global};
 
@@ -33,6 +33,24 @@ pub trait Form: Slots + Drop {
     fn put(&self, alloc: Global, members: &mut Map<String, Value>) -> Result<(), AllocError>
         ensures { OnOk result (members_view members.new.entries
             ≡ with_slots Self.schema (Self.value self.now) (members_view members.old.entries)) };
+}
+
+/// A message in a box has the form of the message.
+impl<M: Form + Blank> Form for Boxed<M> {
+    fn knows(key: &str) -> bool {
+        M::knows(key)
+    }
+
+    fn read(alloc: Global, value: &Value) -> Result<Boxed<M>, JsonFault> {
+        Ok(Boxed::new(alloc, M::read(alloc, value)?)?)
+    }
+
+    fn put(&self, alloc: Global, members: &mut Map<String, Value>) -> Result<(), AllocError> {
+        match self.get() {
+            Some(message) => message.put(alloc, members),
+            None => M::blank(alloc).put(alloc, members),
+        }
+    }
 }
 
 /// The first key, in byte order, that a kind of message hasn't.

@@ -7,9 +7,9 @@ use feed_codec::{
     check_snapshot, decode, decode_entity, decode_header,
 };
 use feed_values::{
-    Alert, Entity, EntitySelector, FeedHeader, Position, StopTimeEvent, StopTimeUpdate, Text,
-    TimeRange, Translation, TripDescriptor, TripUpdate, Unknown, UnknownValue, VehicleDescriptor,
-    VehiclePosition,
+    Alert, Boxed, Entity, EntitySelector, FeedHeader, Position, StopTimeEvent, StopTimeUpdate,
+    Text, TimeRange, Translation, TripDescriptor, TripUpdate, Unknown, UnknownValue,
+    VehicleDescriptor, VehiclePosition,
 };
 use rt_outside::Steps;
 use std::alloc::{AllocError, Global};
@@ -145,25 +145,39 @@ fn expect_periods(rt: &impl Abort, periods: &[TimeRange]) {
     }
 }
 
-fn expect_informed(rt: &impl Abort, informed: &[EntitySelector]) {
+fn expect_selected_trip(rt: &impl Abort, held: &Option<Boxed<TripDescriptor>>) {
+    let Some(boxed) = held else {
+        panic!(rt; "no trip");
+    };
+    match boxed.get() {
+        Some(trip) => {
+            expect_trip(
+                rt,
+                trip,
+                [Some("T3"), Some("10:00:00"), Some("20231116"), Some("R4")],
+                [Some(3), Some(0)],
+            );
+        }
+        None => panic!(rt; "a trip that says nothing"),
+    }
+}
+
+fn expect_selectors(rt: &impl Abort, first: &EntitySelector, second: &EntitySelector) {
+    assert_eq!(rt; text(&first.agency_id), Some("A1"));
+    assert_eq!(rt; text(&first.route_id), Some("R2"));
+    assert_eq!(rt; first.route_type, Some(-7));
+    assert_eq!(rt; text(&first.stop_id), Some("S6"));
+    expect_selected_trip(rt, &first.trip);
+    assert_eq!(rt; text(&second.stop_id), Some("S7"));
+}
+
+fn expect_informed(rt: &impl Abort, informed: &[Boxed<EntitySelector>]) {
     match informed {
         [first, second] => {
-            assert_eq!(rt; text(&first.agency_id), Some("A1"));
-            assert_eq!(rt; text(&first.route_id), Some("R2"));
-            assert_eq!(rt; first.route_type, Some(-7));
-            assert_eq!(rt; text(&first.stop_id), Some("S6"));
-            match &first.trip {
-                Some(trip) => {
-                    expect_trip(
-                        rt,
-                        trip,
-                        [Some("T3"), Some("10:00:00"), Some("20231116"), Some("R4")],
-                        [Some(3), Some(0)],
-                    );
-                }
-                None => panic!(rt; "no trip"),
+            match (first.get(), second.get()) {
+                (Some(first), Some(second)) => expect_selectors(rt, first, second),
+                _ => panic!(rt; "a selector that says nothing"),
             }
-            assert_eq!(rt; text(&second.stop_id), Some("S7"));
         }
         _ => panic!(rt; "another number of selectors"),
     }

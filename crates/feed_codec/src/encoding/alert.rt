@@ -7,7 +7,8 @@ ghost use Rattle.feed_values.specs.Canonical.{canonical};
 ghost use Rattle.feed_codec.specs.Encoding.{alert_from_url, held_from_url};
 
 use crate::encoding::{
-    Encode, put_enum, put_i32, put_optional, put_optional_text, put_repeated, put_u64, put_unknown,
+    Encode, put_all_boxed, put_boxed, put_enum, put_i32, put_optional, put_optional_text,
+    put_repeated, put_u64, put_unknown,
 };
 use feed_values::{Alert, EntitySelector, TimeRange};
 use std::alloc::{AllocError, Global};
@@ -15,7 +16,7 @@ use std::alloc::{AllocError, Global};
 impl Encode for Alert {
     fn put(&self, alloc: Global, out: &mut Vec<u8>) -> Result<(), AllocError> {
         put_repeated(alloc, out, 1, &self.active_period)?;
-        put_repeated(alloc, out, 5, &self.informed_entity)?;
+        put_all_boxed(alloc, out, 5, &self.informed_entity)?;
         put_enum(out, 6, self.cause)?;
         put_enum(out, 7, self.effect)?;
         put_from_url(alloc, out, self)
@@ -46,7 +47,7 @@ impl Encode for EntitySelector {
         put_optional_text(out, 1, &self.agency_id)?;
         put_optional_text(out, 2, &self.route_id)?;
         put_i32(out, 3, self.route_type)?;
-        put_optional(alloc, out, 4, &self.trip)?;
+        put_boxed(alloc, out, 4, &self.trip)?;
         put_optional_text(out, 5, &self.stop_id)?;
         put_unknown::<EntitySelector>(out, &self.unknown)
     }
