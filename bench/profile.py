@@ -12,9 +12,11 @@ from measuring import make, program
 
 CODEC = ("rt_wire", "feed_values", "feed_codec")
 RULES = ("rule_core", "message_rules", "schedule_rules", "pairing_rules", "history_rules", "judging")
-# Functions that call all of decoding, or all that judges: of each the call that takes most.
+# Functions that call all of decoding, or all that is done with entities: of each the call that takes most.
 DECODE = ("feed_codec::snapshot::check_snapshot", "feed_codec::message::merge::")
-JUDGE = ("judging::all_rules::AllRules::judge_entity", "kept_rows::rows::add_rows")
+JUDGE = ("rt_run::findings::send_entities", "kept_rows::rows::add_rows")
+# What is called there beside: decoding each entity, and its lines. Freeing what was decoded stays with the rules.
+BESIDE = ("feed_codec::message::merge::", "rt_run::lines::Lines::push")
 
 
 def crate_of(name):
@@ -42,7 +44,7 @@ def counted(words):
             crates[crate_of(name)] += count
         whole = collections.Counter()
         for name, count in functions(out, "--inclusive=yes"):
-            for begin in DECODE + JUDGE:
+            for begin in set(DECODE + JUDGE + BESIDE):
                 if name.startswith(begin):
                     whole[begin] = max(whole[begin], count)
     return crates, whole
@@ -56,7 +58,7 @@ def show(name, run):
         print("    %-16s %8.1f %6.1f %%" % (crate, count / 1e6, 100 * count / whole))
     print("    decoding (%s) %.1f, rules (%s) %.1f" % (", ".join(CODEC), sum(crates[c] for c in CODEC) / 1e6,
                                                        ", ".join(RULES), sum(crates[c] for c in RULES) / 1e6))
-    print("    with all that they call: decoding %.1f, rules %.1f" % (sum(calls[f] for f in DECODE) / 1e6, sum(calls[f] for f in JUDGE) / 1e6))
+    print("    with all that they call: decoding %.1f, rules %.1f" % (sum(calls[f] for f in DECODE) / 1e6, (sum(calls[f] for f in JUDGE) - sum(calls[f] for f in BESIDE)) / 1e6))
 
 
 def main():

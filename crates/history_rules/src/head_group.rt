@@ -37,13 +37,14 @@ fn previous_cell<'a>(previous: Option<&'a FeedHeader>, slot: Slot) -> CellRef<'a
     }
 }
 
-/// What is known of a feed beside its entities.
+/// What is known of a feed beside its entities. `before` is None, and `changed` false, where the feed has no snapshot before;
+/// `moment` is POSIX time in seconds.
 #[derive(Drop)]
-struct HeadAnswers<'a> {
-    now: &'a FeedHeader,
-    before: Option<&'a FeedHeader>,
-    changed: bool,
-    moment: u64,
+pub struct HeadAnswers<'a> {
+    pub now: &'a FeedHeader,
+    pub before: Option<&'a FeedHeader>,
+    pub changed: bool,
+    pub moment: u64,
 }
 
 impl Answers for HeadAnswers<'_> {

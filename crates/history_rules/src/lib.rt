@@ -10,5 +10,5 @@ mod stamp_groups;
 mod stamp_index;
 
 pub use bound_group::BoundGroup;
-pub use head_group::HeadGroup;
+pub use head_group::{HeadAnswers, HeadGroup};
 pub use stamp_index::StampIndex;

@@ -58,7 +58,7 @@ module _ (t : Option Tables) (rows : List PairRow) (heads : Heads) (k : EntityKe
   abbrev whole : Ask → Option CellValue
   whole = whole_answer t rows heads k e
 
-  local_same : SameFrom is_local (local_answer t k e) whole
+  pub local_same : SameFrom is_local (local_answer t k e) whole
   local_same (ask.Cell p) h = refl
   local_same ask.Occurrence h = refl
   local_same (ask.HeadNow S3) h = absurd (clash h)

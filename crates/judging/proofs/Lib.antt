@@ -2,6 +2,8 @@ pub mod Ruled
 pub mod Sorted
 pub mod OneSnapshot
 pub mod Joined
+pub mod WholeAnswer
+pub mod Beside
 pub mod Headed
 pub mod Counted
 pub mod Rowed

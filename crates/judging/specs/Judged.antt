@@ -4,7 +4,10 @@ use Rattle.std.specs.List.{flat_map}
 use Rattle.feed_values.specs.Schema.{Value}
 use Rattle.feed_values.specs.Messages.{feed_header, entity}
 use Rattle.feed_values.specs.Snapshot.{header_of, entities_of}
+use Rattle.feed_values.specs.declared.cell_value.CellValue.{CellValue}
 use Rattle.timetable.specs.Timetables.{Tables}
+use Rattle.rule_core.specs.declared.ask.Ask.{Ask}
+use Rattle.rule_core.specs.declared.key.EntityKey.{EntityKey}
 use Rattle.rule_core.specs.Answered.{Heads}
 use Rattle.rule_core.specs.Found.{Found}
 use Rattle.std.specs.BTreeSet.{insert_key}
@@ -14,11 +17,15 @@ use Rattle.rule_core.specs.Pairs.{PairRow, rows_of, update_rows, vehicle_rows, v
 use Rattle.rule_core.specs.History.{Snapshot, feed_limit}
 use Rattle.rule_core.specs.Findings.{findings}
 use Rattle.judging.specs.Seats.{Seat, seats}
-use Rattle.judging.specs.Whole.{entity_found, header_found}
+use Rattle.judging.specs.Whole.{entity_found, header_found, whole_answer}
 
 -- what is known of its feed: nothing stands before its header, and nothing changed
 abbrev pub first_heads : Value feed_header → ℕ → Heads
 first_heads header moment = record { header = header; previous = None; changed = false; moment = moment }
+
+-- what is answered at an entity of such a feed
+abbrev pub first_answer : Option Tables → List PairRow → Value feed_header → ℕ → EntityKey → Value entity → Ask → Option CellValue
+first_answer t rows header moment key e = whole_answer t rows (first_heads header moment) key e
 
 -- the pairing rows of some entities
 abbrev pub seat_rows : List Seat → List PairRow

@@ -6,13 +6,16 @@
 #![tactic(auto)]
 
 mod all_rules;
+mod entity_answers;
 mod laws;
+mod marking;
 mod rows;
 mod ruling;
 mod seating;
 
 pub use all_rules::AllRules;
 pub use laws::one_snapshot_is_its_history;
+pub use marking::{finding_at, marks_at};
 pub use rows::rows_of;
 pub use ruling::rule_by_rule;
 pub use seating::count_one;

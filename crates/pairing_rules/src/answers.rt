@@ -49,10 +49,10 @@ fn rows_answer<'a, P: PairView>(view: &'a P, ask: AskRef<'_>) -> Option<CellRef<
 
 /// An entity under its key, with the pairing rows of all entities.
 #[derive(Drop)]
-pub(crate) struct PairAnswers<'a, P: PairView> {
-    pub(crate) view: &'a P,
-    pub(crate) key: &'a EntityKey,
-    pub(crate) entity: &'a Entity,
+pub struct PairAnswers<'a, P: PairView> {
+    pub view: &'a P,
+    pub key: &'a EntityKey,
+    pub entity: &'a Entity,
 }
 
 impl<P: PairView> Answers for PairAnswers<'_, P> {

@@ -16,6 +16,7 @@ mod seat;
 mod slots;
 mod taking;
 
+pub use answers::PairAnswers;
 pub use group::PairGroup;
 pub use laws::alike_rows_agree;
 pub use pair_index::PairIndex;

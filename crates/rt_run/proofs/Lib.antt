@@ -2,6 +2,7 @@ pub mod Joined
 pub mod Appended
 pub mod Added
 pub mod Sent
+pub mod Marks
 pub mod Named
 pub mod Reports
 pub mod Pieces

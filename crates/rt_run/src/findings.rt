@@ -5,12 +5,13 @@ ghost use Rattle.std.specs.List.{flat_map};
 ghost use Rattle.rt_outside.specs.Causes.{Rose};
 ghost use Rattle.rt_outside.specs.Sink.{AppendsPrefix};
 ghost use Rattle.feed_values.specs.Snapshot.{entities_of, entity_payloads, header_of};
-ghost use Rattle.feed_values.specs.Views.{feed_header_value};
+ghost use Rattle.feed_values.specs.Views.{entity_value, feed_header_value};
 ghost use Rattle.timetable.specs.Timetables.{Tables};
 ghost use Rattle.rule_core.specs.Answered.{tables_of};
+ghost use Rattle.rule_core.specs.Marked.{marked};
 ghost use Rattle.rule_core.specs.Pairs.{PairRow};
 ghost use Rattle.judging.specs.Whole.{entity_found, header_found};
-ghost use Rattle.judging.specs.Judged.{first_heads, found_at_seats, snapshot_found};
+ghost use Rattle.judging.specs.Judged.{first_answer, first_heads, found_at_seats, snapshot_found};
 ghost use Rattle.kept_rows.specs.Places.{AreWithin, entity_at, placed};
 ghost use Rattle.rt_run.specs.Findings.{AddsLines, Sends, SendsPart, finding_text, has_error};
 
@@ -19,11 +20,11 @@ use crate::lines::Lines;
 use crate::sending::send;
 use feed_codec::{decode_entity, decode_header};
 use feed_stream::Kept;
-use feed_values::{FeedHeader, Items};
-use judging::AllRules;
+use feed_values::{Entity, FeedHeader};
+use judging::{AllRules, finding_at, marks_at};
 use kept_rows::{places, rows_of};
 use rt_outside::{Sink, Steps, put_all};
-use rule_core::{EntityKey, Finding, PairView};
+use rule_core::{EntityKey, Mark, PairView};
 use std::alloc::{AllocError, Global};
 use std::collections::BTreeMap;
 use std::sync::ledger::{Blank, Ledger};
@@ -44,10 +45,37 @@ fn judge_header<L: Ledger>(
     lines.push(alloc, found.as_slice())
 }
 
-/// The findings at the entity of a kept snapshot that has this number, which is decoded for it.
-fn judge_entity<P: PairView, L: Ledger>(
+/// Sends the findings of marks at an entity, one after the other, so that no more than one is held.
+fn send_marked<P: PairView, S: Sink>(
     alloc: Global,
-    rules: &AllRules,
+    timetable: &Timetable,
+    view: &P,
+    header: &FeedHeader,
+    moment: u64,
+    key: &EntityKey,
+    entity: &Entity,
+    marks: &[Mark],
+    lines: &mut Lines,
+    out: &mut S,
+) -> Result<(), Fault>
+    ensures sent { OnOk result (Sends (S.state out.old).written (S.state out.new).written lines.old lines.new
+        (marked (first_answer (tables_of timetable.now) (P.rows view.now) (feed_header_value header.now) moment key.now (entity_value entity.now)) key.now marks.now)) }
+    ensures part { OnErr result (SendsPart (S.state out.old).written (S.state out.new).written lines.old
+        (marked (first_answer (tables_of timetable.now) (P.rows view.now) (feed_header_value header.now) moment key.now (entity_value entity.now)) key.now marks.now)) }
+    ensures not_read { IsErrOf result Fault.Read → ⊥ }
+    ensures later { (S.state out.old).faults ≤ (S.state out.new).faults }
+    ensures write { IsErrOf result Fault.Write → Rose (S.state out.old).faults (S.state out.new).faults }
+{
+    for mark in marks {
+        let found = finding_at(alloc, timetable, view, header, moment, key, entity, *mark)?;
+        send(alloc, found.as_slice(), lines, out)?;
+    }
+    Ok(())
+}
+
+/// Sends the findings at the entity of a kept snapshot that has this number, which is decoded for it.
+fn send_entity<P: PairView, L: Ledger, S: Sink>(
+    alloc: Global,
     timetable: &Timetable,
     view: &P,
     header: &FeedHeader,
@@ -55,19 +83,29 @@ fn judge_entity<P: PairView, L: Ledger>(
     kept: &Kept,
     key: &EntityKey,
     place: usize,
+    lines: &mut Lines,
     steps: &mut Steps<L>,
-) -> Result<Items<Finding>, AllocError>
+    out: &mut S,
+) -> Result<(), Fault>
     requires { place < length (entity_payloads kept.now) }
-    ensures { IfOk result (λ list. list ≡ entity_found (tables_of timetable.now) (P.rows view.now) (first_heads (feed_header_value header.now) moment) key.now (entity_at kept.now place)) }
+    ensures sent { OnOk result (Sends (S.state out.old).written (S.state out.new).written lines.old lines.new
+        (entity_found (tables_of timetable.now) (P.rows view.now) (first_heads (feed_header_value header.now) moment) key.now (entity_at kept.now place))) }
+    ensures part { OnErr result (SendsPart (S.state out.old).written (S.state out.new).written lines.old
+        (entity_found (tables_of timetable.now) (P.rows view.now) (first_heads (feed_header_value header.now) moment) key.now (entity_at kept.now place))) }
+    ensures not_read { IsErrOf result Fault.Read → ⊥ }
+    ensures later { (S.state out.old).faults ≤ (S.state out.new).faults }
+    ensures write { IsErrOf result Fault.Write → Rose (S.state out.old).faults (S.state out.new).faults }
 {
     let entity = decode_entity(alloc, kept.entity(place), steps)?;
-    rules.judge_entity(alloc, timetable, view, header, moment, key, &entity, steps)
+    let marks = marks_at(alloc, timetable, view, header, moment, key, &entity, steps)?;
+    send_marked(
+        alloc, timetable, view, header, moment, key, &entity, &marks, lines, out,
+    )
 }
 
 /// Sends the findings at the entities of a kept snapshot, one entity after the other.
 fn send_entities<P: PairView, L: Ledger, S: Sink>(
     alloc: Global,
-    rules: &AllRules,
     timetable: &Timetable,
     view: &P,
     header: &FeedHeader,
@@ -88,10 +126,9 @@ fn send_entities<P: PairView, L: Ledger, S: Sink>(
     ensures write { IsErrOf result Fault.Write → Rose (S.state out.old).faults (S.state out.new).faults }
 {
     for (key, place) in places {
-        let found = judge_entity(
-            alloc, rules, timetable, view, header, moment, kept, key, *place, steps,
+        send_entity(
+            alloc, timetable, view, header, moment, kept, key, *place, lines, steps, out,
         )?;
-        send(alloc, found.as_slice(), lines, out)?;
     }
     Ok(())
 }
@@ -125,16 +162,16 @@ fn send_snapshot<L: Ledger, S: Sink>(
     let rows = rows_of(alloc, kept, &places)?;
     judge_header(alloc, &rules, &header, moment, lines, &mut steps)?;
     send_entities(
-        alloc, &rules, timetable, &rows, &header, moment, kept, &places, lines, &mut steps, out,
+        alloc, timetable, &rows, &header, moment, kept, &places, lines, &mut steps, out,
     )
 }
 
 /// Writes a line, and behind it the findings of an accepted snapshot of feed 0, which is the first one of all. It answers whether
 /// one of them is of an error.
 ///
-/// The findings of each entity are written before those of many more are made, and no more than one entity is held decoded. So
-/// memory grows with the bytes of the snapshot and the ids of its entities, and not with what they hold or what is found. The
-/// counter is its own.
+/// No more than one entity is held decoded, with a mark of a few bytes for each of its findings, and no more than one finding;
+/// lines are written as soon as they fill a piece. So memory grows with the bytes of the snapshot, the ids of its entities and
+/// the largest entity, and not with what all of them hold or what is found. The counter is its own.
 pub fn put_findings<L: Ledger, S: Sink>(
     alloc: Global,
     timetable: &Timetable,

@@ -24,7 +24,7 @@ use Rattle.rule_core.specs.GroupLaws.{and_true}
 use Rattle.rule_core.specs.declared.place.Place.TheVariants as place
 use Rattle.rule_core.specs.Judged.{found_at, found_below, places_at}
 use Rattle.rule_core.specs.Settled.{settled_by}
-use Rattle.rule_core.specs.Clear.{IsClear, when}
+use Rattle.rule_core.specs.Clear.{IsClear, where_related, where_sequenced}
 use Rattle.rule_core.specs.Sound.{AreUpdates}
 use Rattle.rule_core.proofs.NoneSettled.{none_settled}
 use Rattle.rule_core.proofs.StopWays.{relationship, sequence, update_at, update_places}
@@ -65,13 +65,12 @@ module _ (t : Option Tables) (key : EntityKey) (e : Value entity) (stops : List 
     at_places : (rule : RuleId) (s : Slot) → settled_by rule true ≡ true → Gives s → found_below rule here key s (places_at e S31) ≡ []
     at_places rule s r g = subst (λ n. found_below rule here key s n ≡ []) (sym (update_places e stops k)) (below_all rule s r g (length stops) (omega arith))
 
-    pub related_clear : list_all (λ stop. is_some stop.schedule_relationship) stops ≡ true → Each (IsClear here key e) ((W009, S34) ∷ [])
+    pub related_clear : list_all (λ stop. is_some stop.schedule_relationship) stops ≡ true → Each (IsClear here key e) where_related
     related_clear h =
         let given : Gives S34 = λ i stop there. ap is_given (sym (relationship e i stop (update_at e stops i stop k there))) ∙ given_number stop.schedule_relationship (each_has (λ s. is_some s.schedule_relationship) stops i stop h there) in
         (at_places W009 S34 refl given, tt)
 
-    pub sequenced_clear : (sequenced : Bool) → sequenced ≡ list_all (λ stop. is_some stop.stop_sequence) stops → Each (IsClear here key e) (when sequenced ((E009, S32) ∷ []))
-    sequenced_clear false h = tt
-    sequenced_clear true h =
-        let given : Gives S32 = λ i stop there. ap is_given (sym (sequence e i stop (update_at e stops i stop k there))) ∙ given_number stop.stop_sequence (each_has (λ s. is_some s.stop_sequence) stops i stop (sym h) there) in
+    pub sequenced_clear : list_all (λ stop. is_some stop.stop_sequence) stops ≡ true → Each (IsClear here key e) where_sequenced
+    sequenced_clear h =
+        let given : Gives S32 = λ i stop there. ap is_given (sym (sequence e i stop (update_at e stops i stop k there))) ∙ given_number stop.stop_sequence (each_has (λ s. is_some s.stop_sequence) stops i stop h there) in
         (at_places E009 S32 refl given, tt)

@@ -18,7 +18,6 @@ use Rattle.rule_core.specs.declared.row.Cite.TheVariants as cite
 use Rattle.rule_core.specs.declared.row.Atom.{Atom}
 use Rattle.rule_core.specs.declared.rule.RuleId.{RuleId}
 use Rattle.rule_core.specs.declared.rule.RuleId.TheVariants.{E009, E011, E015, E045, E046, E051}
-use Rattle.rule_core.specs.declared.clear.Clear.TheVariants as clear
 use Rattle.rule_core.specs.Answered.{yes, natural_cell, local_answer, trip_known, time_at, stop_at}
 use Rattle.rule_core.specs.Asked.{text_in, number_in, sequence_of}
 use Rattle.rule_core.specs.Passed.{is_given, same_cell, is_number, passes}
@@ -26,7 +25,7 @@ use Rattle.rule_core.specs.Cited.{value_from, value_then}
 use Rattle.rule_core.specs.CitedLaws.{both_same}
 use Rattle.rule_core.specs.Table.{test_of}
 use Rattle.rule_core.specs.Judged.{found_at, found_below, places_at}
-use Rattle.rule_core.specs.Clear.{AreClear, IsClear, when}
+use Rattle.rule_core.specs.Clear.{IsClear, where_kept}
 use Rattle.rule_core.specs.Groups.{Each}
 use Rattle.rule_core.specs.Keeping.{IsHalt, differ, has_time, KeepsTrip, Keeps, KeepBelow}
 use Rattle.rule_core.proofs.NoneThere.{after, after_one, after_both, none_found}
@@ -167,8 +166,8 @@ module _ (t : Tables) (key : EntityKey) (e : Value entity) where
   below rule s h zero k = refl
   below rule s h (suc n) k = both_same (below rule s h n k.0) (h n k.1)
 
-  pub all_clear : KeepBelow t e (places_at e S33) → (sequenced : Bool) → Each (IsClear (local_answer (Some t) key e) key e) (when sequenced ((E009, S32) ∷ [])) → AreClear (local_answer (Some t) key e) key e (clear.Kept sequenced)
-  all_clear k sequenced more = (
+  pub all_clear : KeepBelow t e (places_at e S33) → Each (IsClear (local_answer (Some t) key e) key e) where_kept
+  all_clear k = (
     below E011 S33 (no_E011 t key e) (places_at e S33) k,
     (
       below E015 S33 (no_E015 t key e) (places_at e S33) k,
@@ -180,7 +179,7 @@ module _ (t : Tables) (key : EntityKey) (e : Value entity) where
             below E046 S38 (no_E046_departure t key e) (places_at e S38) k,
             (
               below E051 S32 (no_E051 t key e) (places_at e S32) k,
-              more,
+              tt,
             ),
           ),
         ),

@@ -14,12 +14,12 @@ use Rattle.rule_core.specs.declared.key.EntityKey.{EntityKey}
 use Rattle.rule_core.specs.declared.place.Place.TheVariants as place
 use Rattle.rule_core.specs.declared.rule.RuleId.{RuleId}
 use Rattle.rule_core.specs.declared.rule.RuleId.TheVariants.{E001, E002, E022, E025, E036, E037, E040, E042, E043, E044}
-use Rattle.rule_core.specs.declared.clear.Clear.TheVariants as clear
 use Rattle.rule_core.specs.Answered.{local_answer}
 use Rattle.rule_core.specs.Passed.{given_or, is_given, is_number}
 use Rattle.rule_core.specs.CitedLaws.{both_same}
 use Rattle.rule_core.specs.Judged.{found_at, found_below, places_at}
-use Rattle.rule_core.specs.Clear.{AreClear}
+use Rattle.rule_core.specs.Clear.{IsClear, where_sound}
+use Rattle.rule_core.specs.Groups.{Each}
 use Rattle.rule_core.specs.Sound.{no_time, at_most, below, equal, IsSound, Follows, SoundBelow}
 use Rattle.rule_core.proofs.NoneThere.{after, none_found}
 
@@ -156,7 +156,7 @@ module _ (t : Option Tables) (key : EntityKey) (e : Value entity) where
   below_all rule s h zero k = refl
   below_all rule s h (suc n) k = both_same (below_all rule s h n k.0) (h n k.1)
 
-  pub all_clear : SoundBelow e (places_at e S31) → AreClear here key e clear.Sound
+  pub all_clear : SoundBelow e (places_at e S31) → Each (IsClear here key e) where_sound
   all_clear k = (
     below_all E001 S37 (λ i h. no_E001_arrival i h.1) (places_at e S37) k,
     (

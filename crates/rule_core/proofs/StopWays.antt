@@ -1,5 +1,5 @@
 -- The cells of an entity behind one of its stop time updates.
-use Rattle.std.proofs.Common.{◌<◌, slice_index_or, sym, ap, ◌∙◌}
+use Rattle.std.proofs.Common.{◌<◌, ◌-◌, slice_index_or, sym, ap, ◌∙◌, subst}
 use Rattle.std.specs.Prelude.{◌≡◌, ℕ, ◌==◌, pos, Bool, true, false, ◌||◌, List, length, drop, map, Option, Some, None, option_map, slice_get, refl}
 use Rattle.std.proofs.lemmas.List.{length-map}
 use Rattle.std.proofs.lemmas.Option.{slice_get-map, slice_get_read}
@@ -17,7 +17,7 @@ use Rattle.feed_values.specs.declared.stop_time_event.StopTimeEvent.{StopTimeEve
 use Rattle.feed_values.specs.declared.slot.Slot.TheVariants.{S31, S32, S33, S34, S35, S36, S37, S38, S39, S40}
 use Rattle.feed_values.specs.declared.stop_time_update.StopTimeUpdate.{StopTimeUpdate}
 use Rattle.rule_core.specs.Judged.{places_at}
-use Rattle.rule_core.specs.Sound.{AreUpdates, IsUpdateAt}
+use Rattle.rule_core.specs.Sound.{AreUpdates, IsUpdateAt, StandsAlone, ComesAfter, IsSound, Follows, cells_at, cells_in}
 
 pub or_true : (b : Bool) → (b || true) ≡ true
 or_true true = refl
@@ -92,6 +92,16 @@ module _ (e : Value entity) (i : ℕ) (stop : StopTimeUpdate) (k : IsUpdateAt e 
 
   pub departure_time : option_case stop.departure Missing (λ event. number_cell event.time) ≡ there S40
   departure_time = of_event stop.departure (λ event. number_cell event.time) (λ v. number_cell v.1.0) (λ _. refl) ∙ sym (behind e i (stop_time_update_value stop) S40 refl k)
+
+  cells : cells_in stop ≡ cells_at e i
+  cells = cc (sequence, id, relationship, arrival, arrival_delay, arrival_time, departure, departure_delay, departure_time)
+
+  pub sound_there : StandsAlone (cells_in stop) → IsSound e i
+  sound_there h = subst StandsAlone cells h
+
+pub follows_there : (e : Value entity) (i : ℕ) (before stop : StopTimeUpdate) → IsUpdateAt e (i - 1) (stop_time_update_value before) → IsUpdateAt e i (stop_time_update_value stop)
+    → ComesAfter (cells_in before) (cells_in stop) → Follows e i
+follows_there e i before stop j k h below = subst (λ u. ComesAfter u (cells_at e i)) (cells e (i - 1) before j) (subst (ComesAfter (cells_in before)) (cells e i stop k) h)
 
 -- how many there are
 pub update_places : (e : Value entity) (stops : List StopTimeUpdate) → AreUpdates e stops → places_at e S31 ≡ length stops

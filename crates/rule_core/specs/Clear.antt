@@ -10,9 +10,11 @@ use Rattle.rule_core.specs.declared.key.EntityKey.{EntityKey}
 use Rattle.rule_core.specs.declared.rule.RuleId.{RuleId}
 use Rattle.rule_core.specs.declared.rule.RuleId.TheVariants.{E001, E002, E009, E011, E015, E022, E025, E036, E037, E040, E042, E043, E044, E045, E046, E051, W009}
 use Rattle.rule_core.specs.declared.clear.Clear.{Clear}
-use Rattle.rule_core.specs.declared.clear.Clear.TheVariants as clear
+use Rattle.rule_core.specs.declared.clear.Settling.{Settling}
+use Rattle.rule_core.specs.declared.clear.Settling.TheVariants.{Soundness, Relationships, Timetable, Sequences, Nothing}
 use Rattle.rule_core.specs.Groups.{Each}
 use Rattle.rule_core.specs.Judged.{found_below, places_at}
+use Rattle.rule_core.specs.Laws.{IsAmong}
 
 -- the rules and slots that are clear where each stop time update is sound, and where each keeps to the timetable
 abbrev pub where_sound : List (RuleId × Slot)
@@ -22,16 +24,28 @@ where_sound = (E001, S37) ∷ (E001, S40) ∷ (E002, S32) ∷ (E022, S31) ∷ (E
 abbrev pub where_kept : List (RuleId × Slot)
 where_kept = (E011, S33) ∷ (E015, S33) ∷ (E045, S33) ∷ (E046, S35) ∷ (E046, S38) ∷ (E051, S32) ∷ []
 
+-- and where each gives its schedule_relationship, or its stop_sequence
+abbrev pub where_related : List (RuleId × Slot)
+where_related = (W009, S34) ∷ []
+
+abbrev pub where_sequenced : List (RuleId × Slot)
+where_sequenced = (E009, S32) ∷ []
+
 abbrev pub when : {A : Type 0} → Bool → List A → List A
 when true l = l
 when false l = []
 
--- one is clear where each gives its schedule_relationship, and one more where each gives its stop_sequence
+-- those that are clear by what was shown
 abbrev pub cleared : Clear → List (RuleId × Slot)
-cleared clear.Nowhere = []
-cleared clear.Sound = where_sound
-cleared clear.Related = (W009, S34) ∷ []
-cleared (clear.Kept sequenced) = where_kept ++ when sequenced ((E009, S32) ∷ [])
+cleared c = when c.sound where_sound ++ (when c.related where_related ++ (when c.kept where_kept ++ when c.sequenced where_sequenced))
+
+-- a rule and a slot are among those that this settles
+abbrev pub IsSettledBy : Settling → RuleId × Slot → Type 0
+IsSettledBy Soundness p = IsAmong p where_sound
+IsSettledBy Relationships p = IsAmong p where_related
+IsSettledBy Timetable p = IsAmong p where_kept
+IsSettledBy Sequences p = IsAmong p where_sequenced
+IsSettledBy Nothing p = Unit {0}
 
 -- a rule has no findings at a slot of an entity
 abbrev pub IsClear : (Ask → Option CellValue) → EntityKey → Value entity → RuleId × Slot → Type 0

@@ -13,6 +13,7 @@ pub mod KnownTrips
 pub mod Sound
 pub mod Clear
 pub mod Judged
+pub mod Marked
 pub mod Order
 pub mod Pairs
 pub mod History

@@ -43,7 +43,7 @@ module _ (test : Source → Bool) (a b : Ask → Option CellValue) (same : SameF
     place_same : (key : EntityKey) (p : Path) → found_at rule a (place.Entity key p) ≡ found_at rule b (place.Entity key p)
     place_same key p = found_along rule a b (place.Entity key p) (along_same key p [] (cites_of rule) from)
 
-    below_same : (key : EntityKey) (s : Slot) (n : ℕ) → found_below rule a key s n ≡ found_below rule b key s n
+    pub below_same : (key : EntityKey) (s : Slot) (n : ℕ) → found_below rule a key s n ≡ found_below rule b key s n
     below_same key s zero = refl
     below_same key s (suc i) = both_same (below_same key s i) (place_same key (record { slot = s; index = i }))
 

@@ -17,7 +17,7 @@ use crate::place::PlaceRef;
 use crate::row::Cite;
 use feed_values::{CellRef, Path, Slot};
 
-fn path_of(slot: Slot, index: u32) -> Path
+pub(crate) fn path_of(slot: Slot, index: u32) -> Path
     ensures { result ≡ path_at slot index }
 {
     if slot.has_index() {

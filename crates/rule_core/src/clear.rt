@@ -1,10 +1,13 @@
 //! Slots at which some rules are known to break nowhere, so that they needn't be judged there.
-ghost use Rattle.std.specs.Prelude.{◌≡◌, true, is_some};
+ghost use Rattle.std.specs.Prelude.{◌≡◌, true, is_some, length, []};
 ghost use Rattle.std.specs.List.{list_all};
 ghost use Rattle.feed_values.specs.Views.{entity_value};
+ghost use Rattle.timetable.specs.Lookups.{is_present, tables_in};
 ghost use Rattle.rule_core.specs.Answered.{tables_of, local_answer};
-ghost use Rattle.rule_core.specs.Clear.{AreClear, cleared};
+ghost use Rattle.rule_core.specs.Clear.{AreClear, IsSettledBy, cleared};
+ghost use Rattle.rule_core.specs.Keeping.{KeepBelow};
 ghost use Rattle.rule_core.specs.Laws.{IsAmong};
+ghost use Rattle.rule_core.specs.Sound.{AreUpdates, SoundBelow};
 ghost use Rattle.rule_core.specs.declared.key.EntityKey.{EntityKey};
 
 use crate::keeping::keep;
@@ -14,7 +17,7 @@ use feed_values::{Entity, Slot, StopTimeUpdate};
 use timetable::Timetable;
 
 /// What a look along the stop time updates of an entity is for.
-#[derive(Clone, Copy, Debug)]
+#[derive(Clone, Copy, Debug, PartialEq, Eq)]
 pub(crate) enum Look {
     /// There is none.
     Nothing,
@@ -22,22 +25,34 @@ pub(crate) enum Look {
     Soundness,
     /// Whether each gives its schedule_relationship.
     Relationships,
-    /// Whether each keeps to the timetable.
+    /// Whether each keeps to the timetable, and whether each gives its stop_sequence.
     Timetable,
+    /// All of these.
+    Everything,
 }
 
-/// What it shows.
+/// What looks have shown of the stop time updates of an entity. Each that is false shows nothing.
 #[derive(Clone, Copy, Debug)]
-pub(crate) enum Clear {
-    /// Nothing.
-    Nowhere,
+pub struct Clear {
     /// Each is sound: it breaks no rule within the message, by itself and after the one before it. That each gives a
     /// schedule_relationship isn't asked.
-    Sound,
+    sound: bool,
     /// Each gives its schedule_relationship.
-    Related,
-    /// Each keeps to the timetable; and whether each gives a stop_sequence.
-    Kept(bool),
+    related: bool,
+    /// Each keeps to the timetable. That each gives a stop_sequence isn't asked.
+    kept: bool,
+    /// Each gives its stop_sequence.
+    sequenced: bool,
+}
+
+/// What settles that a rule breaks nowhere at a slot.
+#[derive(Clone, Copy, Debug)]
+enum Settling {
+    Soundness,
+    Relationships,
+    Timetable,
+    Sequences,
+    Nothing,
 }
 
 /// Whether each update gives its schedule_relationship.
@@ -57,46 +72,108 @@ fn are_sequenced(stops: &[StopTimeUpdate]) -> bool
 }
 
 impl Look {
+    fn has(self, part: Look) -> bool {
+        self == part || self == Look::Everything
+    }
+
+    fn sees_sound(self, entity: &Entity, stops: &[StopTimeUpdate]) -> bool
+        requires { AreUpdates (entity_value entity.now) stops.now }
+        ensures { result ≡ true → SoundBelow (entity_value entity.now) (length stops.now) }
+    {
+        self.has(Look::Soundness) && are_sound(entity, stops)
+    }
+
+    fn sees_related(self, stops: &[StopTimeUpdate]) -> bool
+        ensures { result ≡ true → list_all (λ stop. is_some stop.schedule_relationship) stops.now ≡ true }
+    {
+        self.has(Look::Relationships) && are_related(stops)
+    }
+
+    fn sees_kept(self, table: &Timetable, entity: &Entity, stops: &[StopTimeUpdate]) -> bool
+        requires { AreUpdates (entity_value entity.now) stops.now }
+        ensures present { result ≡ true → is_present table.now ≡ true }
+        ensures kept { result ≡ true → KeepBelow (tables_in table.now) (entity_value entity.now) (length stops.now) }
+    {
+        self.has(Look::Timetable) && table.is_present() && keep(table, entity, stops)
+    }
+
+    fn sees_sequenced(self, stops: &[StopTimeUpdate]) -> bool
+        ensures { result ≡ true → list_all (λ stop. is_some stop.stop_sequence) stops.now ≡ true }
+    {
+        self.has(Look::Timetable) && are_sequenced(stops)
+    }
+
     /// What is seen at an entity. Where there are no updates there is nothing to be seen.
     pub fn at(self, table: &Timetable, entity: &Entity) -> Clear
         ensures { (key : EntityKey) → AreClear (local_answer (tables_of table.now) key (entity_value entity.now)) key (entity_value entity.now) result }
     {
         let Some(update) = &entity.trip_update else {
-            return Clear::Nowhere;
+            return Clear::nowhere();
         };
         let stops = update.stop_time_update.as_slice();
         if stops.is_empty() {
-            return Clear::Nowhere;
+            return Clear::nowhere();
         }
-        match self {
-            Look::Soundness if are_sound(entity, stops) => Clear::Sound,
-            Look::Relationships if are_related(stops) => Clear::Related,
-            Look::Timetable if table.is_present() && keep(table, entity, stops) => {
-                Clear::Kept(are_sequenced(stops))
-            }
-            _ => Clear::Nowhere,
+        Clear {
+            sound: self.sees_sound(entity, stops),
+            related: self.sees_related(stops),
+            kept: self.sees_kept(table, entity, stops),
+            sequenced: self.sees_sequenced(stops),
         }
     }
 }
 
+/// What settles that a rule breaks nowhere at a slot, where that is shown.
+fn what_settles(rule: RuleId, slot: Slot) -> Settling
+    ensures { IsSettledBy result (rule, slot) }
+{
+    match (rule, slot) {
+        (RuleId::E001, Slot::S37 | Slot::S40) => Settling::Soundness,
+        (RuleId::E002 | RuleId::E036, Slot::S32) => Settling::Soundness,
+        (RuleId::E022 | RuleId::E040 | RuleId::E043, Slot::S31) => Settling::Soundness,
+        (RuleId::E025, Slot::S40) => Settling::Soundness,
+        (RuleId::E037, Slot::S33) => Settling::Soundness,
+        (RuleId::E042 | RuleId::E044, Slot::S35 | Slot::S38) => Settling::Soundness,
+        (RuleId::W009, Slot::S34) => Settling::Relationships,
+        (RuleId::E011 | RuleId::E015 | RuleId::E045, Slot::S33) => Settling::Timetable,
+        (RuleId::E046, Slot::S35 | Slot::S38) => Settling::Timetable,
+        (RuleId::E051, Slot::S32) => Settling::Timetable,
+        (RuleId::E009, Slot::S32) => Settling::Sequences,
+        _ => Settling::Nothing,
+    }
+}
+
 impl Clear {
+    /// Nothing is shown.
+    pub fn nowhere() -> Clear
+        ensures { cleared result ≡ [] }
+    {
+        Clear {
+            sound: false,
+            related: false,
+            kept: false,
+            sequenced: false,
+        }
+    }
+
+    /// All that looks along the stop time updates of an entity show, once for all rules: whether they are sound, keep to the
+    /// timetable, and give their schedule_relationship and their stop_sequence.
+    pub fn of(table: &Timetable, entity: &Entity) -> Clear
+        ensures { (key : EntityKey) → AreClear (local_answer (tables_of table.now) key (entity_value entity.now)) key (entity_value entity.now) result }
+    {
+        Look::Everything.at(table, entity)
+    }
+
     /// Whether it is clear that a rule breaks nowhere at a slot.
-    pub fn has(self, rule: RuleId, slot: Slot) -> bool
+    pub(crate) fn has(self, rule: RuleId, slot: Slot) -> bool
         ensures { result ≡ true → IsAmong (rule, slot) (cleared self) }
     {
-        match (self, rule, slot) {
-            (Clear::Sound, RuleId::E001, Slot::S37 | Slot::S40) => true,
-            (Clear::Sound, RuleId::E002 | RuleId::E036, Slot::S32) => true,
-            (Clear::Sound, RuleId::E022 | RuleId::E040 | RuleId::E043, Slot::S31) => true,
-            (Clear::Sound, RuleId::E025, Slot::S40) => true,
-            (Clear::Sound, RuleId::E037, Slot::S33) => true,
-            (Clear::Sound, RuleId::E042 | RuleId::E044, Slot::S35 | Slot::S38) => true,
-            (Clear::Related, RuleId::W009, Slot::S34) => true,
-            (Clear::Kept(_), RuleId::E011 | RuleId::E015 | RuleId::E045, Slot::S33) => true,
-            (Clear::Kept(_), RuleId::E046, Slot::S35 | Slot::S38) => true,
-            (Clear::Kept(_), RuleId::E051, Slot::S32) => true,
-            (Clear::Kept(sequenced), RuleId::E009, Slot::S32) => sequenced,
-            _ => false,
+        match what_settles(rule, slot) {
+            Settling::Soundness => self.sound,
+            Settling::Relationships => self.related,
+            Settling::Timetable => self.kept,
+            Settling::Sequences => self.sequenced,
+            Settling::Nothing => false,
         }
     }
 }

@@ -1,5 +1,5 @@
 //! Judging a rule at an entity and on a header.
-ghost use Rattle.std.specs.Prelude.{◌≡◌, false, ◌+◌, ◌≤◌, ◌++◌, length, OnOk};
+ghost use Rattle.std.specs.Prelude.{◌≡◌, false, ◌+◌, ◌≤◌, ◌++◌, [], length, slice_get, Some, OnOk};
 ghost use Rattle.std.specs.Option.{option_map};
 ghost use Rattle.std.specs.List.{Contains};
 ghost use Rattle.feed_values.specs.Cells.{has_item, way};
@@ -9,14 +9,17 @@ ghost use Rattle.rule_core.specs.declared.place.Place.TheVariants as place;
 ghost use Rattle.rule_core.specs.Table.{slots_of, head_slots_of};
 ghost use Rattle.rule_core.specs.Rows.{slots_at};
 ghost use Rattle.rule_core.specs.Clear.{AreClear};
+ghost use Rattle.rule_core.specs.Marked.{marked, marked_at};
 ghost use Rattle.rule_core.specs.Judged.{found_at, found_below, found_by, found_all, head_found_by, head_found_all, places_at, updates_in, periods_in, selectors_in};
 
 use crate::answers::Answers;
+use crate::asking::path_of;
 use crate::citing::{cite, is_broken};
 use crate::clear::Clear;
 use crate::finding::Finding;
 use crate::finding_list::FindingList;
 use crate::key::EntityKey;
+use crate::mark::Mark;
 use crate::place::PlaceRef;
 use crate::rule::RuleId;
 use crate::settled::is_settled;
@@ -110,39 +113,88 @@ fn judge_place<A: Answers>(
     out.push(Finding::new(rule, place, facts))
 }
 
-/// Judges a rule at one path of an entity, unless what stands there settles that it isn't broken.
-fn judge_path<A: Answers>(
+/// Appends the findings of a mark: one where its rule breaks at its place, and else none.
+pub fn judge_mark<A: Answers>(
     alloc: Global,
+    answers: &A,
+    key: &EntityKey,
+    mark: Mark,
+    out: &mut FindingList,
+) -> Result<(), AllocError>
+    ensures { OnOk result (out.new ≡ out.old ++ marked_at (A.answers answers.now) key.now mark) }
+{
+    let Some(slot) = slots(mark.rule).get(mark.number) else {
+        return Ok(());
+    };
+    let path = path_of(*slot, mark.index);
+    judge_place(alloc, answers, mark.rule, PlaceRef::Entity(key, path), out)
+}
+
+/// Appends the findings of marks, one after the other.
+fn judge_marks<A: Answers>(
+    alloc: Global,
+    answers: &A,
+    key: &EntityKey,
+    marks: &[Mark],
+    out: &mut FindingList,
+) -> Result<(), AllocError>
+    ensures { OnOk result (out.new ≡ out.old ++ marked (A.answers answers.now) key.now marks.now) }
+{
+    for mark in marks {
+        judge_mark(alloc, answers, key, *mark, out)?;
+    }
+    Ok(())
+}
+
+/// Whether a rule breaks at a path of an entity. What stands there may settle that it doesn't.
+fn breaks_at<A: Answers>(answers: &A, rule: RuleId, key: &EntityKey, path: Path) -> bool
+    ensures { result ≡ false → found_at rule (A.answers answers.now) (place.Entity key.now path) ≡ [] }
+{
+    if path.index < first(rule) || is_settled(answers, rule, path) {
+        return false;
+    }
+    let place = PlaceRef::Entity(key, path);
+    is_broken(answers, place, cites_at(rule, place), test_at(rule, place))
+}
+
+/// Marks a rule at one index of a slot, if it breaks there.
+fn mark_index<A: Answers>(
     answers: &A,
     rule: RuleId,
     key: &EntityKey,
-    path: Path,
-    out: &mut FindingList,
+    number: usize,
+    slot: Slot,
+    index: u32,
+    out: &mut Vec<Mark>,
 ) -> Result<(), AllocError>
-    requires listed { Contains (slots_of rule) path.slot }
-    requires plain { has_item (way path.slot) ≡ false → path.index ≡ 0 }
-    ensures { OnOk result (out.new ≡ out.old ++ found_at rule (A.answers answers.now) (place.Entity key.now path)) }
+    requires listed { slice_get (slots_of rule) number ≡ Some slot }
+    requires plain { has_item (way slot) ≡ false → index ≡ 0 }
+    ensures { OnOk result (marked (A.answers answers.now) key.now out.new.items ≡ marked (A.answers answers.now) key.now out.old.items ++ found_at rule (A.answers answers.now) (place.Entity key.now (record { slot = slot; index = index }))) }
 {
-    if is_settled(answers, rule, path) {
-        return Ok(());
+    if breaks_at(answers, rule, key, Path { slot, index }) {
+        out.push(Mark {
+            rule,
+            number,
+            index,
+        })?;
     }
-    judge_place(alloc, answers, rule, PlaceRef::Entity(key, path), out)
+    Ok(())
 }
 
-/// Judges a rule at one slot of an entity, unless it is clear that it breaks nowhere there.
-fn judge_slot<A: Answers>(
-    alloc: Global,
+/// Marks a rule at one of its slots of an entity, unless it is clear that it breaks nowhere there.
+fn mark_slot<A: Answers>(
     answers: &A,
     clear: Clear,
     rule: RuleId,
     key: &EntityKey,
     entity: &Entity,
+    number: usize,
     slot: Slot,
-    out: &mut FindingList,
+    out: &mut Vec<Mark>,
 ) -> Result<(), AllocError>
-    requires listed { Contains (slots_of rule) slot }
+    requires listed { slice_get (slots_of rule) number ≡ Some slot }
     requires clear { AreClear (A.answers answers.now) key.now (entity_value entity.now) clear }
-    ensures { OnOk result (out.new ≡ out.old ++ found_below rule (A.answers answers.now) key.now slot (places_at (entity_value entity.now) slot)) }
+    ensures { OnOk result (marked (A.answers answers.now) key.now out.new.items ≡ marked (A.answers answers.now) key.now out.old.items ++ found_below rule (A.answers answers.now) key.now slot (places_at (entity_value entity.now) slot)) }
 {
     if clear.has(rule, slot) {
         return Ok(());
@@ -153,28 +205,51 @@ fn judge_slot<A: Answers>(
     }
     let places = places as u32;
     for index in 0..places {
-        judge_path(alloc, answers, rule, key, Path { slot, index }, out)?;
+        mark_index(answers, rule, key, number, slot, index, out)?;
     }
     Ok(())
 }
 
-/// Appends the findings of a rule at an entity, by slot and index.
+/// Marks where a rule breaks at an entity, by slot and index.
 ///
 /// Where a list of the entity has 2^32 items or more, which no path can name, it answers want of memory.
-fn judge_rule<A: Answers>(
-    alloc: Global,
+fn mark_rule<A: Answers>(
     answers: &A,
     clear: Clear,
     rule: RuleId,
     key: &EntityKey,
     entity: &Entity,
-    out: &mut FindingList,
+    out: &mut Vec<Mark>,
 ) -> Result<(), AllocError>
     requires { AreClear (A.answers answers.now) key.now (entity_value entity.now) clear }
-    ensures { OnOk result (out.new ≡ out.old ++ found_by rule (A.answers answers.now) key.now (entity_value entity.now)) }
+    ensures { OnOk result (marked (A.answers answers.now) key.now out.new.items ≡ marked (A.answers answers.now) key.now out.old.items ++ found_by rule (A.answers answers.now) key.now (entity_value entity.now)) }
 {
-    for slot in slots(rule) {
-        judge_slot(alloc, answers, clear, rule, key, entity, *slot, out)?;
+    for (number, slot) in slots(rule).iter().enumerate() {
+        mark_slot(answers, clear, rule, key, entity, number, *slot, out)?;
+    }
+    Ok(())
+}
+
+/// Marks where some rules break at an entity, one rule after the other and each by slot and index, and ticks once for each
+/// rule. A rule isn't judged at a slot at which it is known to be clear. Where a list of the entity has 2^32 items or more,
+/// which no path can name, it answers want of memory.
+pub fn mark_rules<A: Answers, L: Ledger>(
+    answers: &A,
+    clear: Clear,
+    rules: &[RuleId],
+    key: &EntityKey,
+    entity: &Entity,
+    out: &mut Vec<Mark>,
+    steps: &mut Steps<L>,
+) -> Result<(), AllocError>
+    requires { AreClear (A.answers answers.now) key.now (entity_value entity.now) clear }
+    ensures found { OnOk result (marked (A.answers answers.now) key.now out.new.items ≡ marked (A.answers answers.now) key.now out.old.items ++ found_all rules.now (A.answers answers.now) key.now (entity_value entity.now)) }
+    ensures ticked { OnOk result (steps.new ≡ steps.old + length rules.now) }
+    ensures most { steps.new ≤ steps.old + length rules.now }
+{
+    for rule in rules {
+        steps.tick();
+        mark_rule(answers, clear, *rule, key, entity, out)?;
     }
     Ok(())
 }
@@ -229,7 +304,7 @@ pub fn judge_rules<A: Answers, L: Ledger>(
     judge_unclear(
         alloc,
         answers,
-        Clear::Nowhere,
+        Clear::nowhere(),
         rules,
         key,
         entity,
@@ -238,7 +313,7 @@ pub fn judge_rules<A: Answers, L: Ledger>(
     )
 }
 
-/// The same, but for what is known to be clear: a rule isn't judged at a slot at which it is known to break nowhere.
+/// The same, with looks along the stop time updates before: a rule isn't judged at a slot at which it is known to be clear.
 pub(crate) fn judge_unclear<A: Answers, L: Ledger>(
     alloc: Global,
     answers: &A,
@@ -254,11 +329,9 @@ pub(crate) fn judge_unclear<A: Answers, L: Ledger>(
     ensures ticked { OnOk result (steps.new ≡ steps.old + length rules.now) }
     ensures most { steps.new ≤ steps.old + length rules.now }
 {
-    for rule in rules {
-        steps.tick();
-        judge_rule(alloc, answers, clear, *rule, key, entity, out)?;
-    }
-    Ok(())
+    let mut marks = Vec::new(alloc);
+    mark_rules(answers, clear, rules, key, entity, &mut marks, steps)?;
+    judge_marks(alloc, answers, key, &marks, out)
 }
 
 /// Appends the findings of some rules on the header of a feed, one rule after the other and those of one rule by slot, and

@@ -1,37 +1,61 @@
 //! Whether the stop time updates of an entity keep to the timetable. Nothing here takes memory.
-ghost use Rattle.std.specs.Prelude.{◌≡◌, ℕ, List, true, length};
-ghost use Rattle.feed_values.specs.Cells.{cell_value, number_cell};
-ghost use Rattle.feed_values.specs.Meaning.{option_case};
+ghost use Rattle.std.specs.Prelude.{◌≡◌, ℕ, List, Some, true, false, length, slice_get};
+ghost use Rattle.feed_values.specs.Cells.{entity_cell, text_cell};
 ghost use Rattle.feed_values.specs.Views.{entity_value, stop_time_update_value};
-ghost use Rattle.feed_values.specs.declared.cell_value.CellValue.TheVariants.{Missing};
+ghost use Rattle.feed_values.specs.declared.cell_value.CellValue.TheVariants as value;
+ghost use Rattle.feed_values.specs.declared.slot.Slot.TheVariants.{S33};
 ghost use Rattle.timetable.specs.Lookups.{IsStop, tables_in};
-ghost use Rattle.rule_core.specs.Keeping.{IsHalt, KeepBelow, Keeps, KeepsTime, KeepsTrip, has_time};
+ghost use Rattle.rule_core.specs.Keeping.{IsHalt, KeepBelow, Keeps, KeepsTime, KeepsTrip, differ, has_time};
 ghost use Rattle.rule_core.specs.KnownTrips.{HasStops, IsTripAt, IsTripWith};
-ghost use Rattle.rule_core.specs.Sound.{AreUpdates, IsUpdateAt};
+ghost use Rattle.rule_core.specs.Sound.{AreUpdates, IsUpdateAt, delay_in, time_in};
 
 use crate::known_trip::{KnownTrip, known_trip};
-use crate::passing::{differ, is_given};
-use crate::stop_cells::{delay_cell, id_cell, time_cell};
-use feed_values::{CellRef, Entity, StopTimeEvent, StopTimeUpdate};
+use feed_values::{Entity, StopTimeEvent, StopTimeUpdate, Text};
 use timetable::{StopTime, Timetable};
 
-fn is_halt(table: &Timetable, stop: CellRef<'_>) -> bool
-    ensures { result ≡ true → IsHalt (tables_in table.now) (cell_value stop.entry) }
+fn is_halt(kind: Option<u32>) -> bool
+    ensures { result ≡ true → kind ≡ Some 0 }
 {
-    match stop {
-        CellRef::Text(stop) => match table.stop_kind(stop) {
-            Some(0) => true,
-            _ => false,
-        },
-        _ => true,
+    match kind {
+        Some(0) => true,
+        _ => false,
+    }
+}
+
+/// Whether a stop_id, where it is given, is that of a stop at which vehicles halt.
+fn is_at_halt(table: &Timetable, id: &Option<Text>) -> bool
+    ensures { result ≡ true → IsHalt (tables_in table.now) (text_cell id.now) }
+{
+    match id {
+        None => true,
+        Some(id) => is_halt(table.stop_kind(id.as_str())),
+    }
+}
+
+/// Whether a stop_id, where it is given, is that of a stop time, and vehicles halt there. A stop time has the number of its stop,
+/// so no stop is looked up by its id.
+fn is_at_stop(table: &Timetable, stop: u32, id: &Option<Text>) -> bool
+    requires { IsStop table.now stop }
+    ensures same { result ≡ true → (text : List ℕ) → slice_get (tables_in table.now).stop_times.stops stop ≡ Some text → differ (text_cell id.now) (value.Text text) ≡ false }
+    ensures halt { result ≡ true → IsHalt (tables_in table.now) (text_cell id.now) }
+{
+    match id {
+        None => true,
+        Some(id) => id.as_str() == table.stop_text(stop) && is_halt(table.kind_of_stop(stop)),
     }
 }
 
 /// Whether an event has a time, where one is scheduled or not.
 fn has_time(scheduled: Option<u32>, event: &Option<StopTimeEvent>) -> bool
-    ensures { result ≡ has_time scheduled (option_case event.now Missing (λ e. number_cell e.delay)) (option_case event.now Missing (λ e. number_cell e.time)) }
+    ensures { result ≡ has_time scheduled (delay_in event.now) (time_in event.now) }
 {
-    scheduled.is_some() || !is_given(delay_cell(event)) || is_given(time_cell(event))
+    match (scheduled, event) {
+        (None, Some(event)) => match (event.delay, event.time) {
+            (Some(_), None) => false,
+            _ => true,
+        },
+        _ => true,
+    }
 }
 
 /// Whether an update keeps to a stop time.
@@ -44,13 +68,12 @@ fn keeps_time(
 ) -> bool
     requires time { IsStop table.now time.now.stop }
     requires stop { IsUpdateAt (entity_value entity.now) index (stop_time_update_value stop.now) }
-    ensures { result ≡ true → KeepsTime (tables_in table.now) (entity_value entity.now) index time.now }
+    ensures halt { result ≡ true → IsHalt (tables_in table.now) (entity_cell (entity_value entity.now) S33 index) }
+    ensures time { result ≡ true → KeepsTime (tables_in table.now) (entity_value entity.now) index time.now }
 {
-    !differ(
-        id_cell(&stop.stop_id),
-        CellRef::Text(table.stop_text(time.stop)),
-    ) && has_time(time.arrival, &stop.arrival)
-        && has_time(time.departure, &stop.departure)
+    is_at_stop(table, time.stop, &stop.stop_id)
+        && has_time(time.arrival.get(), &stop.arrival)
+        && has_time(time.departure.get(), &stop.departure)
 }
 
 /// Whether an update keeps to the stop time that its trip, which is known, has at a stop_sequence.
@@ -64,7 +87,8 @@ fn keeps_trip(
 ) -> bool
     requires trip { HasStops table.now trip }
     requires stop { IsUpdateAt (entity_value entity.now) index (stop_time_update_value stop.now) }
-    ensures { result ≡ true → (id : List ℕ) → IsTripWith (tables_in table.now) trip.entry id → KeepsTrip (tables_in table.now) (entity_value entity.now) index id sequence }
+    ensures halt { result ≡ true → IsHalt (tables_in table.now) (entity_cell (entity_value entity.now) S33 index) }
+    ensures trip { result ≡ true → (id : List ℕ) → IsTripWith (tables_in table.now) trip.entry id → KeepsTrip (tables_in table.now) (entity_value entity.now) index id sequence }
 {
     match trip.at(sequence, index) {
         None => false,
@@ -84,12 +108,9 @@ fn keeps(
     requires stop { IsUpdateAt (entity_value entity.now) index (stop_time_update_value stop.now) }
     ensures { result ≡ true → Keeps (tables_in table.now) (entity_value entity.now) index }
 {
-    if !is_halt(table, id_cell(&stop.stop_id)) {
-        return false;
-    }
     match (trip, stop.stop_sequence) {
         (Some(trip), Some(sequence)) => keeps_trip(table, entity, index, trip, sequence, stop),
-        _ => true,
+        _ => is_at_halt(table, &stop.stop_id),
     }
 }
 

@@ -32,19 +32,19 @@ fn are_same(first: CellRef<'_>, second: CellRef<'_>) -> bool
     }
 }
 
-pub(crate) fn are_equal(first: CellRef<'_>, second: CellRef<'_>) -> bool
+fn are_equal(first: CellRef<'_>, second: CellRef<'_>) -> bool
     ensures { result ≡ (is_given (cell_value first.entry) && same_cell (cell_value first.entry) (cell_value second.entry)) }
 {
     is_given(first) && are_same(first, second)
 }
 
-pub(crate) fn differ(first: CellRef<'_>, second: CellRef<'_>) -> bool
+fn differ(first: CellRef<'_>, second: CellRef<'_>) -> bool
     ensures { result ≡ (is_given (cell_value first.entry) && is_given (cell_value second.entry) && not (same_cell (cell_value first.entry) (cell_value second.entry))) }
 {
     is_given(first) && is_given(second) && !are_same(first, second)
 }
 
-pub(crate) fn is_number(cell: CellRef<'_>, number: u32) -> bool
+fn is_number(cell: CellRef<'_>, number: u32) -> bool
     ensures { result ≡ is_number number (cell_value cell.entry) }
 {
     match cell {
@@ -54,7 +54,7 @@ pub(crate) fn is_number(cell: CellRef<'_>, number: u32) -> bool
 }
 
 /// The second where it is given, and else the first.
-pub(crate) fn given_or<'a>(first: CellRef<'a>, second: CellRef<'a>) -> CellRef<'a>
+fn given_or<'a>(first: CellRef<'a>, second: CellRef<'a>) -> CellRef<'a>
     ensures { cell_value result ≡ given_or (cell_value first.entry) (cell_value second.entry) }
 {
     match second {
@@ -63,7 +63,7 @@ pub(crate) fn given_or<'a>(first: CellRef<'a>, second: CellRef<'a>) -> CellRef<'
     }
 }
 
-pub(crate) fn number_of(cell: CellRef<'_>) -> Option<i128>
+fn number_of(cell: CellRef<'_>) -> Option<i128>
     ensures { result ≡ number_in (cell_value cell.entry) }
 {
     match cell {
@@ -72,7 +72,7 @@ pub(crate) fn number_of(cell: CellRef<'_>) -> Option<i128>
     }
 }
 
-pub(crate) fn is_at_most(first: Option<i128>, second: Option<i128>) -> bool
+fn is_at_most(first: Option<i128>, second: Option<i128>) -> bool
     ensures { result ≡ numbers_are (λ x y. int_le y x) second first }
 {
     match (second, first) {
@@ -81,7 +81,7 @@ pub(crate) fn is_at_most(first: Option<i128>, second: Option<i128>) -> bool
     }
 }
 
-pub(crate) fn is_below(first: Option<i128>, second: Option<i128>) -> bool
+fn is_below(first: Option<i128>, second: Option<i128>) -> bool
     ensures { result ≡ numbers_are (λ x y. not (int_le y x)) first second }
 {
     match (first, second) {
@@ -139,7 +139,7 @@ fn is_above(first: Option<i128>, second: Option<i128>, by: u32) -> bool
     }
 }
 
-pub(crate) fn is_outside(number: Option<i128>, low: u32, high: u32) -> bool
+fn is_outside(number: Option<i128>, low: u32, high: u32) -> bool
     ensures { result ≡ number_is (λ x. not (int_le (pos low) x && int_le x (pos high))) number }
 {
     match number {

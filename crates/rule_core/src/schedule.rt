@@ -105,7 +105,7 @@ fn first_arrival(table: &Timetable, trip: &str) -> Option<u32>
     ensures { result ≡ option_and_then (λ time. time.arrival) (first_time (tables_in table.now) trip.now) }
 {
     match first_stop(table, trip) {
-        Some(time) => time.arrival,
+        Some(time) => time.arrival.get(),
         None => None,
     }
 }
@@ -133,7 +133,7 @@ fn arrival(table: &Timetable, trip: &str, sequence: u32) -> Option<u32>
     ensures { result ≡ option_and_then (λ time. time.arrival) (time_at (tables_in table.now) trip.now sequence) }
 {
     match stop_time(table, trip, sequence) {
-        Some(time) => time.arrival,
+        Some(time) => time.arrival.get(),
         None => None,
     }
 }
@@ -142,7 +142,7 @@ fn departure(table: &Timetable, trip: &str, sequence: u32) -> Option<u32>
     ensures { result ≡ option_and_then (λ time. time.departure) (time_at (tables_in table.now) trip.now sequence) }
 {
     match stop_time(table, trip, sequence) {
-        Some(time) => time.departure,
+        Some(time) => time.departure.get(),
         None => None,
     }
 }

@@ -1,61 +1,175 @@
 //! Whether the stop time updates of an entity break no rule within their message. Nothing here takes memory.
-ghost use Rattle.std.specs.Prelude.{◌≡◌, ◌-◌, true, length};
-ghost use Rattle.feed_values.specs.Cells.{cell_value};
-ghost use Rattle.feed_values.specs.Views.{entity_value};
-ghost use Rattle.rule_core.specs.Sound.{AreCells, AreUpdates, Follows, IsSound, SoundBelow, is_timed, no_time};
+ghost use Rattle.std.specs.Prelude.{◌≡◌, ◌<◌, ◌||◌, true, false, not, length, bytes_eq};
+ghost use Rattle.feed_values.specs.Cells.{number_cell, text_cell};
+ghost use Rattle.feed_values.specs.Views.{entity_value, natural};
+ghost use Rattle.rule_core.specs.Passed.{given_or, is_given, is_number};
+ghost use Rattle.rule_core.specs.Sound.{AreUpdates, ComesAfter, Follows, SoundBelow, StandsAlone, at_most, below, cells_in, delay_in, equal, event_in, is_timed, no_time, time_in};
 
-use crate::passing::{
-    are_equal, given_or, is_at_most, is_below, is_given, is_number, is_outside, number_of,
-};
-use crate::stop_cells::{StopCells, stop_cells};
-use feed_values::{CellRef, Entity, StopTimeUpdate};
+use feed_values::{Entity, StopTimeEvent, StopTimeUpdate, Text};
 
-fn is_timed(event: CellRef<'_>, delay: CellRef<'_>, time: CellRef<'_>) -> bool
-    ensures { result ≡ is_timed (cell_value event.entry) (cell_value delay.entry) (cell_value time.entry) }
+fn is_named(sequence: Option<u32>, id: &Option<Text>) -> bool
+    ensures { result ≡ (is_given (number_cell (natural sequence)) || is_given (text_cell id.now)) }
 {
-    !is_given(event) || (is_given(delay) || is_given(time))
+    match (sequence, id) {
+        (None, None) => false,
+        _ => true,
+    }
 }
 
-fn is_no_time(time: CellRef<'_>) -> bool
-    ensures { result ≡ no_time (cell_value time.entry) }
+fn is_relation(relationship: Option<u32>, number: u32) -> bool
+    ensures { result ≡ is_number number (number_cell (natural relationship)) }
 {
-    is_outside(number_of(time), 1104537600, 4294967295)
+    match relationship {
+        None => false,
+        Some(relationship) => relationship == number,
+    }
+}
+
+fn is_held(event: &Option<StopTimeEvent>) -> bool
+    ensures { result ≡ is_given (event_in event.now) }
+{
+    match event {
+        None => false,
+        Some(_) => true,
+    }
+}
+
+fn is_timed(event: &Option<StopTimeEvent>) -> bool
+    ensures { result ≡ is_timed (event_in event.now) (delay_in event.now) (time_in event.now) }
+{
+    match event {
+        None => true,
+        Some(event) => match (event.delay, event.time) {
+            (None, None) => false,
+            _ => true,
+        },
+    }
+}
+
+fn time_of(event: &Option<StopTimeEvent>) -> Option<i64>
+    ensures { number_cell result ≡ time_in event.now }
+{
+    match event {
+        None => None,
+        Some(event) => event.time,
+    }
+}
+
+fn is_no_time(time: Option<i64>) -> bool
+    ensures { result ≡ no_time (number_cell time) }
+{
+    match time {
+        None => false,
+        Some(time) => !(1104537600 <= time && time <= 4294967295),
+    }
+}
+
+fn is_below(first: Option<i64>, second: Option<i64>) -> bool
+    ensures { result ≡ below (number_cell first) (number_cell second) }
+{
+    match (first, second) {
+        (Some(first), Some(second)) => first < second,
+        _ => false,
+    }
+}
+
+fn is_at_most(first: Option<i64>, second: Option<i64>) -> bool
+    ensures { result ≡ at_most (number_cell first) (number_cell second) }
+{
+    match (second, first) {
+        (Some(second), Some(first)) => first <= second,
+        _ => false,
+    }
+}
+
+/// The second where it is given, and else the first.
+fn given_or(first: Option<i64>, second: Option<i64>) -> Option<i64>
+    ensures { number_cell result ≡ given_or (number_cell first) (number_cell second) }
+{
+    match second {
+        None => first,
+        Some(_) => second,
+    }
+}
+
+/// Whether a stop_sequence is above the one before it, where both are given.
+fn rises(before: Option<u32>, sequence: Option<u32>) -> bool
+    ensures above { result ≡ not (at_most (number_cell (natural sequence)) (number_cell (natural before))) }
+    ensures another { result ≡ true → equal (number_cell (natural before)) (number_cell (natural sequence)) ≡ false }
+{
+    match (before, sequence) {
+        (Some(before), Some(sequence)) => before < sequence,
+        _ => true,
+    }
+}
+
+/// Whether the last bytes of two texts are equal, where both have one. Ids of stops in a row mostly differ there.
+fn end_alike(first: &str, second: &str) -> bool
+    ensures { first.now ≡ second.now → result ≡ true }
+{
+    match (first.as_bytes().last(), second.as_bytes().last()) {
+        (Some(first), Some(second)) => *first == *second,
+        _ => true,
+    }
+}
+
+fn are_texts_equal(first: &str, second: &str) -> bool
+    ensures { result ≡ bytes_eq first.now second.now }
+{
+    end_alike(first, second) && first == second
+}
+
+fn are_equal(before: &Option<Text>, id: &Option<Text>) -> bool
+    ensures { result ≡ equal (text_cell before.now) (text_cell id.now) }
+{
+    match (before, id) {
+        (Some(before), Some(id)) => are_texts_equal(before.as_str(), id.as_str()),
+        _ => false,
+    }
 }
 
 /// Whether an update breaks no rule by itself.
-fn is_sound(entity: &Entity, index: usize, stop: StopCells<'_>) -> bool
-    requires { AreCells stop (entity_value entity.now) index }
-    ensures { result ≡ true → IsSound (entity_value entity.now) index }
+fn is_sound(stop: &StopTimeUpdate) -> bool
+    ensures { result ≡ true → StandsAlone (cells_in stop.now) }
 {
-    let skipped = is_number(stop.relationship, 1);
-    let without_data = is_number(stop.relationship, 2);
-    let arrives = is_given(stop.arrival);
-    let departs = is_given(stop.departure);
-    (is_given(stop.sequence) || is_given(stop.id))
+    let skipped = is_relation(stop.schedule_relationship, 1);
+    let without_data = is_relation(stop.schedule_relationship, 2);
+    let arrives = is_held(&stop.arrival);
+    let departs = is_held(&stop.departure);
+    let arrival = time_of(&stop.arrival);
+    let departure = time_of(&stop.departure);
+    is_named(stop.stop_sequence, &stop.stop_id)
         && (skipped || (without_data || (arrives || departs)))
         && !(without_data && arrives)
         && !(without_data && departs)
-        && is_timed(stop.arrival, stop.arrival_delay, stop.arrival_time)
-        && is_timed(stop.departure, stop.departure_delay, stop.departure_time)
-        && !is_no_time(stop.arrival_time)
-        && !is_no_time(stop.departure_time)
-        && !is_below(number_of(stop.departure_time), number_of(stop.arrival_time))
+        && is_timed(&stop.arrival)
+        && is_timed(&stop.departure)
+        && !is_no_time(arrival)
+        && !is_no_time(departure)
+        && !is_below(departure, arrival)
 }
 
-/// Whether an update breaks no rule after the one before it, where it isn't the first.
-fn follows(entity: &Entity, index: usize, before: StopCells<'_>, stop: StopCells<'_>) -> bool
-    requires before { AreCells before (entity_value entity.now) (index - 1) }
-    requires stop { AreCells stop (entity_value entity.now) index }
+/// Whether an update breaks no rule after the one before it.
+fn follows(before: &StopTimeUpdate, stop: &StopTimeUpdate) -> bool
+    ensures { result ≡ true → ComesAfter (cells_in before.now) (cells_in stop.now) }
+{
+    let last = given_or(time_of(&before.arrival), time_of(&before.departure));
+    let first = given_or(time_of(&stop.departure), time_of(&stop.arrival));
+    rises(before.stop_sequence, stop.stop_sequence)
+        && !is_at_most(first, last)
+        && !are_equal(&before.stop_id, &stop.stop_id)
+}
+
+/// Whether the update at an index breaks no rule after the one before it, where it isn't the first.
+fn follows_at(entity: &Entity, stops: &[StopTimeUpdate], index: usize) -> bool
+    requires updates { AreUpdates (entity_value entity.now) stops.now }
+    requires within { index < length stops.now }
     ensures { result ≡ true → Follows (entity_value entity.now) index }
 {
-    index == 0
-        || (!is_at_most(number_of(stop.sequence), number_of(before.sequence))
-            && !are_equal(before.sequence, stop.sequence)
-            && !are_equal(before.id, stop.id)
-            && !is_at_most(
-                number_of(given_or(stop.departure_time, stop.arrival_time)),
-                number_of(given_or(before.arrival_time, before.departure_time)),
-            ))
+    if index == 0 {
+        return true;
+    }
+    follows(&stops[index - 1], &stops[index])
 }
 
 /// Whether none of an entity's updates breaks a rule.
@@ -63,16 +177,10 @@ pub(crate) fn are_sound(entity: &Entity, stops: &[StopTimeUpdate]) -> bool
     requires { AreUpdates (entity_value entity.now) stops.now }
     ensures { result ≡ true → SoundBelow (entity_value entity.now) (length stops.now) }
 {
-    let Some(first) = stops.first() else {
-        return true;
-    };
-    let mut before = stop_cells(first);
     for (index, stop) in stops.iter().enumerate() {
-        let stop = stop_cells(stop);
-        if !follows(entity, index, before, stop) || !is_sound(entity, index, stop) {
+        if !is_sound(stop) || !follows_at(entity, stops, index) {
             return false;
         }
-        before = stop;
     }
     true
 }

@@ -20,62 +20,67 @@ use Rattle.rule_core.specs.Cited.{and_then, answered, fact_at, values_of}
 use Rattle.rule_core.specs.CitedLaws.{both_same, Ends, found_ends}
 use Rattle.rule_core.specs.Answered.{local_answer}
 use Rattle.rule_core.specs.Table.{slots_of, cites_of}
-use Rattle.rule_core.specs.Judged.{places_at, found_at, found_below, found_in, found_all}
+use Rattle.rule_core.specs.Judged.{places_at, found_at, found_below, found_in, found_by, found_all}
 use Rattle.rule_core.specs.GroupLaws.{and_true}
 use Rattle.rule_core.specs.Sources.{Source, from_timetable, source_of, source_at, asked_from}
 use Rattle.schedule_rules.specs.Schedule.{schedule_rules}
 use Rattle.schedule_rules.specs.Absent.{NoTimetableNoFindings}
 
-abbrev is_timetable : Source → Bool
+abbrev pub is_timetable : Source → Bool
 is_timetable from_timetable = true
 is_timetable _ = false
 
-abbrev asks_timetable : RuleId → Bool
+abbrev pub asks_timetable : RuleId → Bool
 asks_timetable rule = list_any (λ c. is_timetable (source_at c)) (cites_of rule)
 
--- what comes from the timetable has no answer
-unanswered : (k : EntityKey) (e : Value entity) (q : Ask) → is_timetable (source_of q) ≡ true → local_answer None k e q ≡ None
-unanswered k e (ask.Cell p) h = absurd (clash h)
-unanswered k e ask.Occurrence h = absurd (clash h)
-unanswered k e _ h = refl
-
-module _ (k : EntityKey) (e : Value entity) where
-  silent : (p : Path) (vs : List CellValue) (c : Cite) → is_timetable (source_at c) ≡ true → (f : Fact) → fact_at (local_answer None k e) (place.Entity k p) vs c ≡ Some f → ⊥
+-- for what answers nothing that comes from the timetable
+module _ (answer : Ask → Option CellValue) (unanswered : (q : Ask) → is_timetable (source_of q) ≡ true → answer q ≡ None) (k : EntityKey) (e : Value entity) where
+  silent : (p : Path) (vs : List CellValue) (c : Cite) → is_timetable (source_at c) ≡ true → (f : Fact) → fact_at answer (place.Entity k p) vs c ≡ Some f → ⊥
   silent p vs c t f = asked (ask_at (place.Entity k p) vs c) refl
     where
-      asked : (o : Option Ask) → ask_at (place.Entity k p) vs c ≡ o → and_then o (λ q. answered q (local_answer None k e q)) ≡ Some f → ⊥
+      asked : (o : Option Ask) → ask_at (place.Entity k p) vs c ≡ o → and_then o (λ q. answered q (answer q)) ≡ Some f → ⊥
       asked None u h = cc
       asked (Some q) u h =
-          let n : local_answer None k e q ≡ None = unanswered k e q (ap is_timetable (asked_from k p vs c q u) ∙ t) in
+          let n : answer q ≡ None = unanswered q (ap is_timetable (asked_from k p vs c q u) ∙ t) in
           let m : answered q None ≡ Some f = sym (ap (answered q) n) ∙ h in
           cc m
 
-  ends : (p : Path) (before : List Fact) (cs : List Cite) → list_any (λ c. is_timetable (source_at c)) cs ≡ true → Ends (local_answer None k e) (place.Entity k p) before cs
+  ends : (p : Path) (before : List Fact) (cs : List Cite) → list_any (λ c. is_timetable (source_at c)) cs ≡ true → Ends answer (place.Entity k p) before cs
   ends p before [] h = cc
   ends p before (c ∷ cs) h =
-      elim (is_timetable (source_at c)) as (λ b. is_timetable (source_at c) ≡ b → (b || list_any (λ d. is_timetable (source_at d)) cs) ≡ true → Ends (local_answer None k e) (place.Entity k p) before (c ∷ cs)) [
+      elim (is_timetable (source_at c)) as (λ b. is_timetable (source_at c) ≡ b → (b || list_any (λ d. is_timetable (source_at d)) cs) ≡ true → Ends answer (place.Entity k p) before (c ∷ cs)) [
         | true ↦ λ t _ f a. absurd (silent p (values_of before) c t f a)
         | false ↦ λ _ m f a. ends p (before ++ f ∷ []) cs m
       ] refl h
 
   module _ (rule : RuleId) (asks : asks_timetable rule ≡ true) where
-    below_none : (s : Slot) (n : ℕ) → found_below rule (local_answer None k e) k s n ≡ []
+    below_none : (s : Slot) (n : ℕ) → found_below rule answer k s n ≡ []
     below_none s zero = refl
-    below_none s (suc i) = both_same (below_none s i) (found_ends rule (local_answer None k e) (place.Entity k (record { slot = s; index = i })) (ends (record { slot = s; index = i }) [] (cites_of rule) asks))
+    below_none s (suc i) = both_same (below_none s i) (found_ends rule answer (place.Entity k (record { slot = s; index = i })) (ends (record { slot = s; index = i }) [] (cites_of rule) asks))
 
-    in_none : (slots : List Slot) → found_in rule (local_answer None k e) k e slots ≡ []
+    in_none : (slots : List Slot) → found_in rule answer k e slots ≡ []
     in_none [] = refl
     in_none (s ∷ slots) = both_same (below_none s (places_at e s)) (in_none slots)
 
-  all_none : (rules : List RuleId) → list_all asks_timetable rules ≡ true → found_all rules (local_answer None k e) k e ≡ []
+    -- a rule that asks the timetable has no findings
+    pub by_none : found_by rule answer k e ≡ []
+    by_none = in_none (slots_of rule)
+
+  all_none : (rules : List RuleId) → list_all asks_timetable rules ≡ true → found_all rules answer k e ≡ []
   all_none [] t = refl
   all_none (rule ∷ rules) t =
       let ts = and_true (asks_timetable rule) (list_all asks_timetable rules) t in
-      both_same (in_none rule ts.0 (slots_of rule)) (all_none rules ts.1)
+      both_same (by_none rule ts.0) (all_none rules ts.1)
+
+-- without a timetable an entity answers nothing of it
+local_unanswered : (k : EntityKey) (e : Value entity) (q : Ask) → is_timetable (source_of q) ≡ true → local_answer None k e q ≡ None
+local_unanswered k e (ask.Cell p) h = absurd (clash h)
+local_unanswered k e ask.Occurrence h = absurd (clash h)
+local_unanswered k e _ h = refl
 
 all_ask : list_all asks_timetable schedule_rules ≡ true
 unfolding schedule_rules
 all_ask = refl
 
 pub no_timetable : NoTimetableNoFindings
-no_timetable k e = all_none k e schedule_rules all_ask
+no_timetable k e = all_none (local_answer None k e) (local_unanswered k e) k e schedule_rules all_ask

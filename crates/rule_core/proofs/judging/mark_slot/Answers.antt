@@ -2,7 +2,7 @@ use Rattle.std.proofs.Common.{rules}
 use Rattle.feed_values.specs.Views.{entity_value}
 use Rattle.rule_core.specs.Clear.{cleared}
 use Rattle.rule_core.proofs.NoneThere.{clear_there}
-use Rattle.rule_core.proofs.judging.judge_slot.Goals as goal
+use Rattle.rule_core.proofs.judging.mark_slot.Goals as goal
 
 pub returns-then-has : goal.returns-then-has
 returns-then-has g c =

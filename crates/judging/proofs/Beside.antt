@@ -1,0 +1,63 @@
+-- Without a timetable the rules that ask it find nothing, so that the others find all.
+use Rattle.std.specs.Prelude.{◌≡◌, Bool, true, false, not, List, [], ◌∷◌, ◌++◌, Option, None, filter, if◌then◌else◌, cond, refl}
+use Rattle.std.proofs.Common.{ap, sym, ◌∙◌}
+use borrow.Author.Tests.{clash}
+use Rattle.feed_values.specs.declared.slot.Slot.TheVariants.{S3}
+use Rattle.feed_values.specs.Schema.{Value}
+use Rattle.feed_values.specs.Messages.{entity}
+use Rattle.rule_core.specs.declared.ask.Ask.{Ask}
+use Rattle.rule_core.specs.declared.ask.Ask.TheVariants as ask
+use Rattle.rule_core.specs.declared.key.EntityKey.{EntityKey}
+use Rattle.rule_core.specs.declared.rule.RuleId.{RuleId}
+use Rattle.rule_core.specs.declared.rule.RuleId.TheVariants.{E001, E002, E012, E017, E018, E020, E021, E022, E025, E031, E032, E033, E036, E037, E038, E039, E040, E041, E042, E043, E044, E047, E048, E049, E050, E052, W001, W002, W003, W006, W007, W008, W009, X002}
+use Rattle.rule_core.specs.Answered.{Heads}
+use Rattle.rule_core.specs.Judged.{found_all, found_by}
+use Rattle.rule_core.specs.Pairs.{PairRow}
+use Rattle.rule_core.specs.Sources.{source_of}
+use Rattle.rule_core.specs.Table.{all_rules}
+use Rattle.schedule_rules.proofs.Absent.{asks_timetable, by_none, is_timetable}
+use Rattle.judging.specs.Whole.{entity_found, whole_answer}
+
+-- the rules that don't ask the timetable
+abbrev pub beside_timetable : List RuleId
+beside_timetable = E001 ∷ E002 ∷ E012 ∷ E017 ∷ E018 ∷ E020 ∷ E021 ∷ E022 ∷ E025 ∷ E031 ∷ E032 ∷ E033 ∷ E036 ∷ E037 ∷ E038 ∷ E039 ∷ E040 ∷ E041 ∷ E042 ∷ E043 ∷ E044 ∷ E047 ∷ E048 ∷ E049 ∷ E050 ∷ E052 ∷ W001 ∷ W002 ∷ W003 ∷ W006 ∷ W007 ∷ W008 ∷ W009 ∷ X002 ∷ []
+
+abbrev keeps : RuleId → Bool
+keeps rule = not (asks_timetable rule)
+
+are_beside : filter keeps all_rules ≡ beside_timetable
+are_beside = refl
+
+module _ (rows : List PairRow) (heads : Heads) (k : EntityKey) (e : Value entity) where
+  unanswered : (q : Ask) → is_timetable (source_of q) ≡ true → whole_answer None rows heads k e q ≡ None
+  unanswered (ask.Cell p) h = absurd (clash h)
+  unanswered ask.Occurrence h = absurd (clash h)
+  unanswered (ask.HeadNow S3) h = absurd (clash h)
+  unanswered (ask.HeadNow _) h = absurd (clash h)
+  unanswered (ask.HeadBefore s) h = absurd (clash h)
+  unanswered ask.Moment h = absurd (clash h)
+  unanswered ask.EntitiesChanged h = absurd (clash h)
+  unanswered (ask.FirstVehicle kind trip) h = absurd (clash h)
+  unanswered (ask.HasPair kind trip vehicle) h = absurd (clash h)
+  unanswered (ask.AnyRow kind) h = absurd (clash h)
+  unanswered (ask.HasTrip kind trip) h = absurd (clash h)
+  unanswered (ask.HasVehicle kind vehicle) h = absurd (clash h)
+  unanswered (ask.FirstId feed vehicle) h = absurd (clash h)
+  unanswered (ask.FirstOccurrence feed vehicle) h = absurd (clash h)
+  unanswered _ h = refl
+
+  -- one rule more, which is kept or asks the timetable
+  one_more : (rule : RuleId) (rules : List RuleId) (b : Bool) → asks_timetable rule ≡ b
+      → found_all (filter keeps rules) (whole_answer None rows heads k e) k e ≡ found_all rules (whole_answer None rows heads k e) k e
+      → found_all (if not b then rule ∷ filter keeps rules else filter keeps rules) (whole_answer None rows heads k e) k e
+      ≡ found_by rule (whole_answer None rows heads k e) k e ++ found_all rules (whole_answer None rows heads k e) k e
+  one_more rule rules true asks h = h ∙ ap (λ fs. fs ++ found_all rules (whole_answer None rows heads k e) k e) (sym (by_none (whole_answer None rows heads k e) unanswered k e rule asks))
+  one_more rule rules false asks h = ap (λ fs. found_by rule (whole_answer None rows heads k e) k e ++ fs) h
+
+  kept : (rules : List RuleId) → found_all (filter keeps rules) (whole_answer None rows heads k e) k e ≡ found_all rules (whole_answer None rows heads k e) k e
+  kept [] = refl
+  kept (rule ∷ rules) = one_more rule rules (asks_timetable rule) refl (kept rules)
+
+  pub found_beside : found_all beside_timetable (whole_answer None rows heads k e) k e ≡ entity_found None rows heads k e
+  unfolding entity_found
+  found_beside = kept all_rules

@@ -1,0 +1,33 @@
+use Rattle.std.proofs.Common.{◌≡◌, ◌∙◌, [], rules, subst, sym}
+use Rattle.feed_values.specs.Views.{entity_value, feed_header_value}
+use Rattle.rule_core.specs.Answered.{local_answer, tables_of}
+use Rattle.rule_core.specs.Clear.{AreClear}
+use Rattle.rule_core.specs.Judged.{found_all}
+use Rattle.rule_core.specs.Marked.{marked}
+use Rattle.rule_core.proofs.Cleared.{clear_same}
+use Rattle.judging.specs.Judged.{first_answer, first_heads}
+use Rattle.judging.proofs.Joined.{local_same}
+use Rattle.judging.proofs.marking.marks_at.Goals as goal
+
+-- what is clear by the entity and the timetable is clear by all that is answered
+pub mark_rules-requires : goal.mark_rules-requires
+mark_rules-requires g c =
+    let t = tables_of c.args.table.now in
+    let rows = g.P.PairView.rows c.args.view.now in
+    let header = feed_header_value c.args.header.now in
+    let k = c.args.key.now in
+    let e = entity_value c.args.entity.now in
+    subst (λ a. AreClear a k e c.of-clear.result) (sym c.answers_at-answers.ensures.answers)
+    (clear_same (local_answer t k e) (first_answer t rows header c.args.moment k e) (local_same t rows (first_heads header c.args.moment) k e) k e c.of-clear.result (c.of-clear.ensures k))
+
+pub returns : goal.returns
+returns g c =
+    let t = tables_of c.args.table.now in
+    let rows = g.P.PairView.rows c.args.view.now in
+    let header = feed_header_value c.args.header.now in
+    let k = c.args.key.now in
+    let e = entity_value c.args.entity.now in
+    let none : c.new-marks.result.items ≡ [] = search rules in
+    let found = rw none at c.in_ok-mark_rules.ensures.found in
+    subst (λ a. marked a k c.mark_rules.new.out.items ≡ found_all c.rules_with-rules.result.now a k e) c.answers_at-answers.ensures.answers found
+    ∙ c.rules_with-rules.ensures rows (first_heads header c.args.moment) k e

@@ -1,0 +1,39 @@
+//! What all rules ask at an entity.
+ghost use Rattle.std.specs.Prelude.{option_copied};
+ghost use Rattle.std.specs.Option.{option_map};
+ghost use Rattle.feed_values.specs.Views.{entity_value, feed_header_value};
+ghost use Rattle.rule_core.specs.Answered.{tables_of};
+ghost use Rattle.judging.specs.Whole.{whole_answer};
+
+use feed_values::{CellRef, Path};
+use history_rules::HeadAnswers;
+use pairing_rules::PairAnswers;
+use rule_core::{Answers, AskRef, LocalAnswers, PairView};
+
+/// An entity with all that its rules ask for: what each group of rules is answered by.
+#[derive(Drop)]
+pub(crate) struct EntityAnswers<'a, P: PairView> {
+    pub local: LocalAnswers<'a>,
+    pub heads: HeadAnswers<'a>,
+    pub pairs: PairAnswers<'a, P>,
+}
+
+impl<P: PairView> Answers for EntityAnswers<'_, P> {
+    ghost answers = { λ s. whole_answer (tables_of s.local.table.now) (P.rows s.pairs.view.now)
+        (record { header = feed_header_value s.heads.now.now; previous = option_map feed_header_value (option_copied s.heads.before); changed = s.heads.changed; moment = s.heads.moment })
+        s.local.key.now (entity_value s.local.entity.now) };
+
+    fn answer<'a>(&'a self, ask: AskRef<'_>) -> Option<CellRef<'a>> {
+        if let Some(cell) = self.local.answer(ask) {
+            return Some(cell);
+        }
+        match self.heads.answer(ask) {
+            Some(cell) => Some(cell),
+            None => self.pairs.answer(ask),
+        }
+    }
+
+    fn cell<'a>(&'a self, path: Path) -> Option<CellRef<'a>> {
+        self.local.cell(path)
+    }
+}
