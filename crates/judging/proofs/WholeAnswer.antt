@@ -1,8 +1,6 @@
--- What all rules are answered at an entity is what the groups are answered, one after the other.
+-- What all rules are answered at an entity is what its source answers.
 use Rattle.std.specs.Prelude.{◌≡◌, List, Option, Some, None, refl}
-use Rattle.std.specs.Option.{option_or}
-use Rattle.std.proofs.Common.{sym, ◌∙◌}
-use Rattle.feed_values.specs.declared.cell_value.CellValue.{CellValue}
+use borrow.Author.Tests.{clash}
 use Rattle.feed_values.specs.Schema.{Value}
 use Rattle.feed_values.specs.Messages.{entity}
 use Rattle.timetable.specs.Timetables.{Tables}
@@ -11,21 +9,61 @@ use Rattle.rule_core.specs.declared.ask.Ask.TheVariants as ask
 use Rattle.rule_core.specs.declared.key.EntityKey.{EntityKey}
 use Rattle.rule_core.specs.Answered.{Heads, heads_answer, local_answer, pair_answer}
 use Rattle.rule_core.specs.Pairs.{PairRow}
+use Rattle.judging.specs.Answering.{answered_by}
+use Rattle.judging.specs.declared.entity_answers.Answering.TheVariants as by
 use Rattle.judging.specs.Whole.{whole_answer}
 
-module _ (rows : List PairRow) (heads : Heads) (k : EntityKey) (e : Value entity) (l : EntityKey) (f : Value entity) where
-  one_by_one : (t : Option Tables) (q : Ask) → option_or (local_answer t k e q) (option_or (heads_answer heads q) (pair_answer rows l f q)) ≡ whole_answer t rows heads k e q
-  one_by_one None (ask.Cell p) = refl
-  one_by_one None _ = refl
-  one_by_one (Some u) (ask.Cell p) = refl
-  one_by_one (Some u) _ = refl
+module _ (rows : List PairRow) (heads : Heads) (k : EntityKey) (e : Value entity) where
+  pub by_heads : (t : Option Tables) (q : Ask) → answered_by q ≡ by.Heads → heads_answer heads q ≡ whole_answer t rows heads k e q
+  by_heads t (ask.HeadNow slot) h = refl
+  by_heads t (ask.HeadBefore slot) h = refl
+  by_heads t ask.Moment h = refl
+  by_heads t ask.EntitiesChanged h = refl
+  by_heads t _ h = absurd (clash h)
 
-  module _ (t : Option Tables) (q : Ask) where
-    pub by_local : (v : CellValue) → local_answer t k e q ≡ Some v → whole_answer t rows heads k e q ≡ Some v
-    by_local v h = sym (one_by_one t q) ∙ rw h refl
+  pub by_local : (t : Option Tables) (q : Ask) → answered_by q ≡ by.Local → local_answer t k e q ≡ whole_answer t rows heads k e q
+  by_local None (ask.HeadNow slot) h = absurd (clash h)
+  by_local None (ask.HeadBefore slot) h = absurd (clash h)
+  by_local None ask.Moment h = absurd (clash h)
+  by_local None ask.EntitiesChanged h = absurd (clash h)
+  by_local None (ask.FirstVehicle kind trip) h = absurd (clash h)
+  by_local None (ask.HasPair kind trip vehicle) h = absurd (clash h)
+  by_local None (ask.AnyRow kind) h = absurd (clash h)
+  by_local None (ask.HasTrip kind trip) h = absurd (clash h)
+  by_local None (ask.HasVehicle kind vehicle) h = absurd (clash h)
+  by_local None (ask.FirstId feed vehicle) h = absurd (clash h)
+  by_local None (ask.FirstOccurrence feed vehicle) h = absurd (clash h)
+  by_local None (ask.Cell path) h = refl
+  by_local None _ h = refl
+  by_local (Some u) (ask.HeadNow slot) h = absurd (clash h)
+  by_local (Some u) (ask.HeadBefore slot) h = absurd (clash h)
+  by_local (Some u) ask.Moment h = absurd (clash h)
+  by_local (Some u) ask.EntitiesChanged h = absurd (clash h)
+  by_local (Some u) (ask.FirstVehicle kind trip) h = absurd (clash h)
+  by_local (Some u) (ask.HasPair kind trip vehicle) h = absurd (clash h)
+  by_local (Some u) (ask.AnyRow kind) h = absurd (clash h)
+  by_local (Some u) (ask.HasTrip kind trip) h = absurd (clash h)
+  by_local (Some u) (ask.HasVehicle kind vehicle) h = absurd (clash h)
+  by_local (Some u) (ask.FirstId feed vehicle) h = absurd (clash h)
+  by_local (Some u) (ask.FirstOccurrence feed vehicle) h = absurd (clash h)
+  by_local (Some u) (ask.Cell path) h = refl
+  by_local (Some u) _ h = refl
 
-    pub by_heads : (v : CellValue) → local_answer t k e q ≡ None → heads_answer heads q ≡ Some v → whole_answer t rows heads k e q ≡ Some v
-    by_heads v h m = sym (one_by_one t q) ∙ rw (h, m) refl
-
-    pub by_rows : local_answer t k e q ≡ None → heads_answer heads q ≡ None → whole_answer t rows heads k e q ≡ pair_answer rows l f q
-    by_rows h m = sym (one_by_one t q) ∙ rw (h, m) refl
+  -- whatever entity stands beside the rows
+  pub by_rows : (l : EntityKey) (f : Value entity) (t : Option Tables) (q : Ask) → answered_by q ≡ by.Pairs → pair_answer rows l f q ≡ whole_answer t rows heads k e q
+  by_rows l f None (ask.FirstVehicle kind trip) h = refl
+  by_rows l f None (ask.HasPair kind trip vehicle) h = refl
+  by_rows l f None (ask.AnyRow kind) h = refl
+  by_rows l f None (ask.HasTrip kind trip) h = refl
+  by_rows l f None (ask.HasVehicle kind vehicle) h = refl
+  by_rows l f None (ask.FirstId feed vehicle) h = refl
+  by_rows l f None (ask.FirstOccurrence feed vehicle) h = refl
+  by_rows l f None _ h = absurd (clash h)
+  by_rows l f (Some u) (ask.FirstVehicle kind trip) h = refl
+  by_rows l f (Some u) (ask.HasPair kind trip vehicle) h = refl
+  by_rows l f (Some u) (ask.AnyRow kind) h = refl
+  by_rows l f (Some u) (ask.HasTrip kind trip) h = refl
+  by_rows l f (Some u) (ask.HasVehicle kind vehicle) h = refl
+  by_rows l f (Some u) (ask.FirstId feed vehicle) h = refl
+  by_rows l f (Some u) (ask.FirstOccurrence feed vehicle) h = refl
+  by_rows l f (Some u) _ h = absurd (clash h)

@@ -1,14 +1,44 @@
 //! What all rules ask at an entity.
-ghost use Rattle.std.specs.Prelude.{option_copied};
+ghost use Rattle.std.specs.Prelude.{◌≡◌, option_copied};
 ghost use Rattle.std.specs.Option.{option_map};
 ghost use Rattle.feed_values.specs.Views.{entity_value, feed_header_value};
 ghost use Rattle.rule_core.specs.Answered.{tables_of};
+ghost use Rattle.rule_core.specs.Asked.{ask_value};
+ghost use Rattle.judging.specs.Answering.{answered_by};
 ghost use Rattle.judging.specs.Whole.{whole_answer};
 
 use feed_values::{CellRef, Path};
 use history_rules::HeadAnswers;
 use pairing_rules::PairAnswers;
 use rule_core::{Answers, AskRef, LocalAnswers, PairView};
+
+/// What answers an ask.
+#[derive(Clone, Copy, Debug)]
+enum Answering {
+    /// The entity and the timetable.
+    Local,
+    /// The headers.
+    Heads,
+    /// The pairing rows.
+    Pairs,
+}
+
+fn source(ask: AskRef<'_>) -> Answering
+    ensures { result ≡ answered_by (ask_value ask.entry) }
+{
+    match ask {
+        AskRef::HeadNow(_) | AskRef::HeadBefore(_) | AskRef::Moment | AskRef::EntitiesChanged =>
+            Answering::Heads,
+        AskRef::FirstVehicle(_, _)
+        | AskRef::HasPair(_, _, _)
+        | AskRef::AnyRow(_)
+        | AskRef::HasTrip(_, _)
+        | AskRef::HasVehicle(_, _)
+        | AskRef::FirstId(_, _)
+        | AskRef::FirstOccurrence(_, _) => Answering::Pairs,
+        _ => Answering::Local,
+    }
+}
 
 /// An entity with all that its rules ask for: what each group of rules is answered by.
 #[derive(Drop)]
@@ -24,12 +54,10 @@ impl<P: PairView> Answers for EntityAnswers<'_, P> {
         s.local.key.now (entity_value s.local.entity.now) };
 
     fn answer<'a>(&'a self, ask: AskRef<'_>) -> Option<CellRef<'a>> {
-        if let Some(cell) = self.local.answer(ask) {
-            return Some(cell);
-        }
-        match self.heads.answer(ask) {
-            Some(cell) => Some(cell),
-            None => self.pairs.answer(ask),
+        match source(ask) {
+            Answering::Local => self.local.answer(ask),
+            Answering::Heads => self.heads.answer(ask),
+            Answering::Pairs => self.pairs.answer(ask),
         }
     }
 

@@ -5,5 +5,6 @@ pub mod InOrder
 pub mod Numbering
 pub mod Indexed
 pub mod Seated
+pub mod Ends
 pub mod Asked
 pub mod SharedKeys

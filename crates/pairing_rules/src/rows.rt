@@ -5,6 +5,7 @@ ghost use Rattle.std.specs.List.Sorted.{IsStrictlySortedBy};
 ghost use Rattle.std.specs.Ordering.{is_le};
 ghost use Rattle.std.specs.BTreeMap.{keys};
 ghost use Rattle.rule_core.specs.Kinds.{same_kind};
+ghost use Rattle.rule_core.specs.declared.kind.Kind.TheVariants.{TripUpdate, Vehicle};
 ghost use Rattle.pairing_rules.specs.Numbers.{is_number};
 ghost use Rattle.pairing_rules.specs.Seats.{seat_cmp, is_pair};
 
@@ -37,14 +38,32 @@ fn is_of_pair(seat: &Seat, kind: Kind, trip: u32, vehicle: u32) -> bool
     seat.kind == kind && seat.trip == Some(trip) && seat.vehicle == Some(vehicle)
 }
 
-/// Whether there is a row of a kind.
+fn any_update(seats: &BTreeMap<Seat, Rc<Held>>) -> bool
+    ensures { result ≡ list_any (λ s. same_kind s.kind TripUpdate) (keys seats.now) }
+{
+    match seats.first_key_value() {
+        Some((seat, _)) => is_of_kind(seat, Kind::TripUpdate),
+        None => false,
+    }
+}
+
+fn any_vehicle(seats: &BTreeMap<Seat, Rc<Held>>) -> bool
+    ensures { result ≡ list_any (λ s. same_kind s.kind Vehicle) (keys seats.now) }
+{
+    match seats.last_key_value() {
+        Some((seat, _)) => is_of_kind(seat, Kind::Vehicle),
+        None => false,
+    }
+}
+
+/// Whether there is a row of a kind. Those of trip updates stand first and those of vehicle positions last, so that none is
+/// searched.
 pub(crate) fn any_of_kind(seats: &BTreeMap<Seat, Rc<Held>>, kind: Kind) -> bool
     ensures { result ≡ list_any (λ s. same_kind s.kind kind) (keys seats.now) }
 {
-    let low = Seat::low(kind, None, None);
-    match first_seat_from(seats, &low) {
-        Some(seat) => is_of_kind(seat, kind),
-        None => false,
+    match kind {
+        Kind::TripUpdate => any_update(seats),
+        Kind::Vehicle => any_vehicle(seats),
     }
 }
 

@@ -1,5 +1,5 @@
 -- What is cited has the asks of its entries, and values alone decide the same.
-use Rattle.std.proofs.Common.{◌≡◌, Bool, true, false, cond, nat_le, List, [], ◌∷◌, ◌++◌, Option, Some, None, option_map, refl, sym, ◌∙◌, ap, append_assoc, subst, rules}
+use Rattle.std.proofs.Common.{◌≡◌, ◌≤◌, Bool, true, false, cond, nat_le, List, [], ◌∷◌, ◌++◌, Option, Some, None, option_map, refl, sym, ◌∙◌, ap, append_assoc, subst, rules}
 use Rattle.feed_values.specs.declared.cell_value.CellValue.{CellValue}
 use Rattle.rule_core.specs.declared.ask.Ask.{Ask}
 use Rattle.rule_core.specs.declared.fact.Fact.{Fact}
@@ -7,7 +7,9 @@ use Rattle.rule_core.specs.declared.place.Place.{Place}
 use Rattle.rule_core.specs.declared.row.Cite.{Cite}
 use Rattle.rule_core.specs.declared.row.Atom.{Atom}
 use Rattle.rule_core.specs.Asked.{index_of, ask_at, in_range}
-use Rattle.rule_core.specs.Cited.{and_then, answered, fact_at, cited, values_of, do_break, value_then, broken_from}
+use Rattle.rule_core.specs.Cited.{and_then, answered, fact_at, cited, values_of, do_break, breaking, value_then, broken_from}
+use Rattle.rule_core.specs.Passed.{passes}
+use Rattle.std.proofs.lemmas.Bool.{le-leb}
 use Rattle.rule_core.specs.Broken.{IsFormed}
 use Rattle.rule_core.specs.declared.rule.RuleId.{RuleId}
 use Rattle.rule_core.specs.Table.{first_of}
@@ -37,6 +39,35 @@ pub broken-cited : (answer : Ask → Option CellValue) (at : Place) (atoms : Lis
 broken-cited answer at atoms before [] = refl
 broken-cited answer at atoms before (c ∷ cs) =
     cited_after answer at atoms before cs (λ f. broken-cited answer at atoms (before ++ f ∷ []) cs) (fact_at answer at (values_of before) c)
+
+-- ---- facts that break a row, and those that don't
+pub breaks : (at : Place) (atoms : List Atom) (o : Option (List Fact)) (facts : List Fact) → breaking at atoms o ≡ Some facts → (o ≡ Some facts) × (passes at atoms (values_of facts) ≡ true)
+breaks at atoms None facts h = cc
+breaks at atoms (Some l) facts h = kept (passes at atoms (values_of l)) refl h
+  where
+    kept : (b : Bool) → passes at atoms (values_of l) ≡ b → cond b (let some : Option (List Fact) = Some l in some) None ≡ Some facts → (Some l ≡ Some facts) × (passes at atoms (values_of facts) ≡ true)
+    kept true e k =
+        let one : l ≡ facts = cc in
+        (k, subst (λ x. passes at atoms (values_of x) ≡ true) one e)
+    kept false e k = cc
+
+pub holds_back : (at : Place) (atoms : List Atom) (o : Option (List Fact)) → breaking at atoms o ≡ None → do_break at atoms o ≡ false
+holds_back at atoms None h = refl
+holds_back at atoms (Some l) h = kept (passes at atoms (values_of l)) h
+  where
+    kept : (b : Bool) → cond b (let some : Option (List Fact) = Some l in some) None ≡ None → b ≡ false
+    kept true k = cc
+    kept false k = refl
+
+pub breaking_is : (at : Place) (atoms : List Atom) (o : Option (List Fact)) (l : List Fact) (b : Bool) → o ≡ Some l → passes at atoms (values_of l) ≡ b
+    → breaking at atoms o ≡ cond b (let some : Option (List Fact) = Some l in some) None
+breaking_is at atoms o l b h k = rw (h, k) refl
+
+pub found_broken : (rule : RuleId) (answer : Ask → Option CellValue) (at : Place) (facts : List Fact) → first_of rule ≤ index_of at
+    → cited answer at [] (cites_at rule at) ≡ Some facts → passes at (test_at rule at) (values_of facts) ≡ true → found_at rule answer at ≡ record { rule = rule; place = at; facts = facts } ∷ []
+found_broken rule answer at facts f h k =
+    let first : nat_le (first_of rule) (index_of at) ≡ true = le-leb (first_of rule) (index_of at) f in
+    rw (first, h, k) refl
 
 -- ---- what is cited has its form
 

@@ -197,7 +197,7 @@ module _ (answer : Ask → Option CellValue) (at : Place) (atoms : List Atom) wh
   given_not false h = refl
 
   -- after the place's own value
-  settled_after : (vs : List CellValue) (given : Bool) (cs : List Cite) (v : CellValue) → is_given v ≡ given
+  pub settled_after : (vs : List CellValue) (given : Bool) (cs : List Cite) (v : CellValue) → is_given v ≡ given
       → ((not given && list_any (names (length vs)) cs) || list_any (fails given (length vs)) atoms) ≡ true → broken_from answer at atoms (vs ++ v ∷ []) cs ≡ false
   settled_after vs given cs v is h =
       let n = length vs in

@@ -17,7 +17,7 @@ use Rattle.rule_core.specs.declared.place.Place.TheVariants as place
 use Rattle.rule_core.specs.declared.row.Cite.TheVariants as cite
 use Rattle.rule_core.specs.declared.row.Atom.{Atom}
 use Rattle.rule_core.specs.declared.rule.RuleId.{RuleId}
-use Rattle.rule_core.specs.declared.rule.RuleId.TheVariants.{E009, E011, E015, E045, E046, E051}
+use Rattle.rule_core.specs.declared.rule.RuleId.TheVariants.{E011, E015, E045, E046, E051}
 use Rattle.rule_core.specs.Answered.{yes, natural_cell, local_answer, trip_known, time_at, stop_at}
 use Rattle.rule_core.specs.Asked.{text_in, number_in, sequence_of}
 use Rattle.rule_core.specs.Passed.{is_given, same_cell, is_number, passes}

@@ -34,6 +34,10 @@ abbrev pub do_break : Place → List Atom → Option (List Fact) → Bool
 do_break at atoms None = false
 do_break at atoms (Some facts) = passes at atoms (values_of facts)
 
+-- these facts, where they break it
+abbrev pub breaking : Place → List Atom → Option (List Fact) → Option (List Fact)
+breaking at atoms o = if do_break at atoms o then o else None
+
 -- ---- the same with values alone
 -- the value of a row's entry, after the values that were cited before it
 abbrev pub value_from : (Ask → Option CellValue) → Place → List CellValue → Cite → Option CellValue

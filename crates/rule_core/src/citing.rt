@@ -2,7 +2,7 @@
 ghost use Rattle.std.specs.Prelude.{◌≡◌, ◌≤◌, length, [], IfOk};
 ghost use Rattle.feed_values.specs.Cells.{cell_value};
 ghost use Rattle.rule_core.specs.Asked.{place_value, fact_value};
-ghost use Rattle.rule_core.specs.Cited.{cited, do_break, broken_from};
+ghost use Rattle.rule_core.specs.Cited.{cited, do_break, breaking, broken_from};
 
 use crate::answers::Answers;
 use crate::asking::{cell_of, fact_of};
@@ -14,7 +14,7 @@ use feed_values::{CellRef, Items};
 use std::alloc::{AllocError, Global};
 
 /// Whether the facts of a row at a place are there and pass its test. It takes no memory.
-pub fn is_broken<A: Answers>(
+pub(crate) fn is_broken<A: Answers>(
     answers: &A,
     place: PlaceRef<'_>,
     cites: &[Cite],
@@ -49,15 +49,17 @@ fn is_broken_impl<A: Answers>(
     test_passes(place, atoms, &cells[..cites.len()])
 }
 
-/// The facts of a row at a place, in order. None where an entry makes no ask or an ask has no answer.
-pub fn cite<A: Answers>(
+/// The facts of a row at a place, in order, where they pass its test. None where an entry makes no ask, an ask has no answer or
+/// the test isn't passed.
+pub(crate) fn cite<A: Answers>(
     alloc: Global,
     answers: &A,
     place: PlaceRef<'_>,
     cites: &[Cite],
+    atoms: &[Atom],
 ) -> Result<Option<Items<Fact>>, AllocError>
     requires { length cites.now ≤ 6 }
-    ensures { IfOk result (λ facts. facts ≡ cited (A.answers answers.now) (place_value place.entry) [] cites.now) }
+    ensures { IfOk result (λ facts. facts ≡ breaking (place_value place.entry) atoms.now (cited (A.answers answers.now) (place_value place.entry) [] cites.now)) }
 {
     let mut cells = [CellRef::Missing; 6];
     let mut facts = Vec::with_capacity(alloc, cites.len())?;
@@ -67,6 +69,9 @@ pub fn cite<A: Answers>(
         };
         cells[k] = fact.cell;
         facts.push(fact.to_fact(alloc)?)?;
+    }
+    if !test_passes(place, atoms, &cells[..cites.len()]) {
+        return Ok(None);
     }
     Ok(Some(Items::from_vec(facts)))
 }

@@ -1,13 +1,17 @@
 //! Slots at which some rules are known to break nowhere, so that they needn't be judged there.
-ghost use Rattle.std.specs.Prelude.{◌≡◌, true, is_some, length, []};
+ghost use Rattle.std.specs.Prelude.{◌≡◌, Option, true, is_some, length, []};
 ghost use Rattle.std.specs.List.{list_all};
 ghost use Rattle.feed_values.specs.Views.{entity_value};
+ghost use Rattle.feed_values.specs.declared.cell_value.CellValue.{CellValue};
 ghost use Rattle.timetable.specs.Lookups.{is_present, tables_in};
 ghost use Rattle.rule_core.specs.Answered.{tables_of, local_answer};
 ghost use Rattle.rule_core.specs.Clear.{AreClear, IsSettledBy, cleared};
 ghost use Rattle.rule_core.specs.Keeping.{KeepBelow};
-ghost use Rattle.rule_core.specs.Laws.{IsAmong};
+ghost use Rattle.rule_core.specs.Laws.{HasCells, IsAmong};
+ghost use Rattle.rule_core.specs.Same.{SameFrom};
 ghost use Rattle.rule_core.specs.Sound.{AreUpdates, SoundBelow};
+ghost use Rattle.rule_core.specs.Sources.{is_local};
+ghost use Rattle.rule_core.specs.declared.ask.Ask.{Ask};
 ghost use Rattle.rule_core.specs.declared.key.EntityKey.{EntityKey};
 
 use crate::keeping::keep;
@@ -31,7 +35,7 @@ pub(crate) enum Look {
     Everything,
 }
 
-/// What looks have shown of the stop time updates of an entity. Each that is false shows nothing.
+/// What looks have shown of an entity: of its stop time updates, and which messages it hasn't. Each that is false shows nothing.
 #[derive(Clone, Copy, Debug)]
 pub struct Clear {
     /// Each is sound: it breaks no rule within the message, by itself and after the one before it. That each gives a
@@ -43,6 +47,10 @@ pub struct Clear {
     kept: bool,
     /// Each gives its stop_sequence.
     sequenced: bool,
+    /// The entity has no trip update.
+    without_update: bool,
+    /// The entity has no vehicle position.
+    without_vehicle: bool,
 }
 
 /// What settles that a rule breaks nowhere at a slot.
@@ -52,6 +60,8 @@ enum Settling {
     Relationships,
     Timetable,
     Sequences,
+    NoTripUpdate,
+    NoVehicle,
     Nothing,
 }
 
@@ -103,22 +113,27 @@ impl Look {
         self.has(Look::Timetable) && are_sequenced(stops)
     }
 
-    /// What is seen at an entity. Where there are no updates there is nothing to be seen.
+    /// What is seen at an entity, for all that answers as the entity and the timetable do. Where there are no updates there is
+    /// nothing to be seen of them.
     pub fn at(self, table: &Timetable, entity: &Entity) -> Clear
-        ensures { (key : EntityKey) → AreClear (local_answer (tables_of table.now) key (entity_value entity.now)) key (entity_value entity.now) result }
+        ensures { (key : EntityKey) (answer : Ask → Option CellValue)
+            → SameFrom is_local (local_answer (tables_of table.now) key (entity_value entity.now)) answer
+            → AreClear answer key (entity_value entity.now) result }
     {
         let Some(update) = &entity.trip_update else {
-            return Clear::nowhere();
+            return Clear::unseen(entity);
         };
         let stops = update.stop_time_update.as_slice();
         if stops.is_empty() {
-            return Clear::nowhere();
+            return Clear::unseen(entity);
         }
         Clear {
             sound: self.sees_sound(entity, stops),
             related: self.sees_related(stops),
             kept: self.sees_kept(table, entity, stops),
             sequenced: self.sees_sequenced(stops),
+            without_update: false,
+            without_vehicle: entity.vehicle.is_none(),
         }
     }
 }
@@ -139,6 +154,36 @@ fn what_settles(rule: RuleId, slot: Slot) -> Settling
         (RuleId::E046, Slot::S35 | Slot::S38) => Settling::Timetable,
         (RuleId::E051, Slot::S32) => Settling::Timetable,
         (RuleId::E009, Slot::S32) => Settling::Sequences,
+        (RuleId::E001 | RuleId::E012 | RuleId::E050 | RuleId::W001, Slot::S29) => {
+            Settling::NoTripUpdate
+        }
+        (RuleId::E003 | RuleId::E006 | RuleId::E016 | RuleId::W003 | RuleId::W006, Slot::S21) => {
+            Settling::NoTripUpdate
+        }
+        (RuleId::E019 | RuleId::E020 | RuleId::E023, Slot::S22) => Settling::NoTripUpdate,
+        (RuleId::E021, Slot::S23) => Settling::NoTripUpdate,
+        (RuleId::E013 | RuleId::W009, Slot::S24) => Settling::NoTripUpdate,
+        (RuleId::E004 | RuleId::E035, Slot::S25) => Settling::NoTripUpdate,
+        (RuleId::E024, Slot::S26) => Settling::NoTripUpdate,
+        (RuleId::E041, Slot::S27) => Settling::NoTripUpdate,
+        (RuleId::E047 | RuleId::W002 | RuleId::W003 | RuleId::W005, Slot::S28) => {
+            Settling::NoTripUpdate
+        }
+        (RuleId::E003 | RuleId::E006 | RuleId::E016 | RuleId::W003, Slot::S52) => {
+            Settling::NoVehicle
+        }
+        (RuleId::E019 | RuleId::E020 | RuleId::E023, Slot::S53) => Settling::NoVehicle,
+        (RuleId::E021, Slot::S54) => Settling::NoVehicle,
+        (RuleId::E013 | RuleId::W009, Slot::S55) => Settling::NoVehicle,
+        (RuleId::E004 | RuleId::E035, Slot::S56) => Settling::NoVehicle,
+        (RuleId::E024, Slot::S57) => Settling::NoVehicle,
+        (RuleId::E047 | RuleId::E052 | RuleId::W002 | RuleId::W003, Slot::S58) => {
+            Settling::NoVehicle
+        }
+        (RuleId::E001 | RuleId::E012 | RuleId::E050 | RuleId::W001, Slot::S59) => {
+            Settling::NoVehicle
+        }
+        (RuleId::E011 | RuleId::E015, Slot::S60) => Settling::NoVehicle,
         _ => Settling::Nothing,
     }
 }
@@ -153,13 +198,31 @@ impl Clear {
             related: false,
             kept: false,
             sequenced: false,
+            without_update: false,
+            without_vehicle: false,
         }
     }
 
-    /// All that looks along the stop time updates of an entity show, once for all rules: whether they are sound, keep to the
-    /// timetable, and give their schedule_relationship and their stop_sequence.
+    /// Of the stop time updates nothing is shown; which messages the entity hasn't is.
+    fn unseen(entity: &Entity) -> Clear
+        ensures { (key : EntityKey) (answer : Ask → Option CellValue) → HasCells answer (entity_value entity.now) → AreClear answer key (entity_value entity.now) result }
+    {
+        Clear {
+            sound: false,
+            related: false,
+            kept: false,
+            sequenced: false,
+            without_update: entity.trip_update.is_none(),
+            without_vehicle: entity.vehicle.is_none(),
+        }
+    }
+
+    /// All that looks at an entity show, once for all rules: which messages it hasn't, and whether its stop time updates are
+    /// sound, keep to the timetable, and give their schedule_relationship and their stop_sequence.
     pub fn of(table: &Timetable, entity: &Entity) -> Clear
-        ensures { (key : EntityKey) → AreClear (local_answer (tables_of table.now) key (entity_value entity.now)) key (entity_value entity.now) result }
+        ensures { (key : EntityKey) (answer : Ask → Option CellValue)
+            → SameFrom is_local (local_answer (tables_of table.now) key (entity_value entity.now)) answer
+            → AreClear answer key (entity_value entity.now) result }
     {
         Look::Everything.at(table, entity)
     }
@@ -173,6 +236,8 @@ impl Clear {
             Settling::Relationships => self.related,
             Settling::Timetable => self.kept,
             Settling::Sequences => self.sequenced,
+            Settling::NoTripUpdate => self.without_update,
+            Settling::NoVehicle => self.without_vehicle,
             Settling::Nothing => false,
         }
     }

@@ -103,10 +103,8 @@ fn judge_place<A: Answers>(
     if place.index() < first(rule) {
         return Ok(());
     }
-    if !is_broken(answers, place, cites_at(rule, place), test_at(rule, place)) {
-        return Ok(());
-    }
-    let Some(facts) = cite(alloc, answers, place, cites_at(rule, place))? else {
+    let cites = cites_at(rule, place);
+    let Some(facts) = cite(alloc, answers, place, cites, test_at(rule, place))? else {
         return Ok(());
     };
     let place = place.to_place(alloc)?;

@@ -51,7 +51,6 @@ pub use asking::ask_of;
 pub use both::Both;
 pub use bound_rule::{Bound, BoundRule};
 pub use cells::{cell_of, is_in_range, number_cell, text_cell, truth_cell};
-pub use citing::{cite, is_broken};
 pub use clear::Clear;
 pub use fact::{Fact, FactRef};
 pub use finding::Finding;

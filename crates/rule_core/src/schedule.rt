@@ -42,6 +42,10 @@ fn direction(table: &Timetable, trip: &str) -> Option<u32>
 fn frequencies<'a>(table: &'a Timetable, trip: &str) -> &'a [Frequency]
     ensures { result.now ≡ frequencies_of (tables_in table.now) trip.now }
 {
+    // Most timetables have none.
+    if !table.has_frequencies() {
+        return &[];
+    }
     match table.trip(trip) {
         Some(number) => table.frequencies(number),
         None => &[],

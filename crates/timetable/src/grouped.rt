@@ -71,6 +71,13 @@ impl<G: Drop> Grouped<G> {
         self.groups.len()
     }
 
+    /// Whether there are none.
+    pub fn is_empty(&self) -> bool
+        ensures { result ≡ true → self.now ≡ map.empty }
+    {
+        self.groups.is_empty()
+    }
+
     /// What stands under an id.
     pub fn get(&self, id: &str) -> Option<&G>
         ensures { option_copied result ≡ map.get self.now id.now }

@@ -312,6 +312,16 @@ impl Timetable {
         self.held().twice[trip.number]
     }
 
+    /// Whether frequencies.txt has rows.
+    pub fn has_frequencies(&self) -> bool
+        ensures { result ≡ false → (tables_in self.now).frequencies ≡ map.empty }
+    {
+        match &self.tables {
+            Some(held) => !held.frequencies.is_empty(),
+            None => false,
+        }
+    }
+
     /// The frequencies of a trip, in the order of the file.
     pub fn frequencies(&self, trip: TripNo) -> &[Frequency]
         requires { IsTrip self.now trip }

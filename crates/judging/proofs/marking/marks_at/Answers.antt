@@ -4,7 +4,6 @@ use Rattle.rule_core.specs.Answered.{local_answer, tables_of}
 use Rattle.rule_core.specs.Clear.{AreClear}
 use Rattle.rule_core.specs.Judged.{found_all}
 use Rattle.rule_core.specs.Marked.{marked}
-use Rattle.rule_core.proofs.Cleared.{clear_same}
 use Rattle.judging.specs.Judged.{first_answer, first_heads}
 use Rattle.judging.proofs.Joined.{local_same}
 use Rattle.judging.proofs.marking.marks_at.Goals as goal
@@ -18,7 +17,7 @@ mark_rules-requires g c =
     let k = c.args.key.now in
     let e = entity_value c.args.entity.now in
     subst (λ a. AreClear a k e c.of-clear.result) (sym c.answers_at-answers.ensures.answers)
-    (clear_same (local_answer t k e) (first_answer t rows header c.args.moment k e) (local_same t rows (first_heads header c.args.moment) k e) k e c.of-clear.result (c.of-clear.ensures k))
+    (c.of-clear.ensures k (first_answer t rows header c.args.moment k e) (local_same t rows (first_heads header c.args.moment) k e))
 
 pub returns : goal.returns
 returns g c =

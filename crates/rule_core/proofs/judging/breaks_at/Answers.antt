@@ -1,4 +1,4 @@
-use Rattle.std.proofs.Common.{◌≡◌, [], rules, false, sym, ◌∙◌}
+use Rattle.std.proofs.Common.{◌≡◌, [], false}
 use Rattle.rule_core.specs.declared.place.Place.TheVariants as place
 use Rattle.rule_core.specs.Cited.{cited, do_break}
 use Rattle.rule_core.specs.Rows.{cites_at, test_at}
