@@ -1,5 +1,5 @@
 -- The kinds of the first and the last of seats in order.
-use Rattle.std.proofs.Common.{arith, ap, subst, sym, ◌∙◌}
+use Rattle.std.proofs.Common.{arith, subst, sym}
 use Rattle.std.specs.Prelude.{◌≡◌, ◌||◌, ℕ, zero, suc, Bool, true, false, List, [], ◌∷◌, Some, slice_get, All, refl}
 use Rattle.std.specs.List.{list_any}
 use Rattle.std.specs.Map.{keys_of}
@@ -26,11 +26,11 @@ before_update TripUpdate TripUpdate rest k h = refl
 before_update TripUpdate Vehicle rest k h = cc
 before_update Vehicle b rest k h = cc
 
-module _ {V : Type 0} (p : Seat → Bool) where
-  none_there : (keys : List Seat) → All (λ x. p x ≡ false) keys → list_any p keys ≡ false
-  none_there [] h = refl
-  none_there (x ∷ keys) h = rw (h 0 x (omega arith)) (none_there keys (λ k d below. h (suc k) d (omega arith)))
+none_there : (p : Seat → Bool) (keys : List Seat) → All (λ x. p x ≡ false) keys → list_any p keys ≡ false
+none_there p [] h = refl
+none_there p (x ∷ keys) h = rw (h 0 x (omega arith)) (none_there p keys (λ k d below. h (suc k) d (omega arith)))
 
+module _ {V : Type 0} (p : Seat → Bool) where
   one_there : (es : List (Seat × V)) (i : ℕ) (s : Seat) (v : V) → slice_get es i ≡ Some (s, v) → p s ≡ true → list_any p (keys_of es) ≡ true
   one_there [] i s v h k = cc
   one_there (e ∷ es) zero s v h k =
@@ -45,7 +45,7 @@ module _ {V : Type 0} (p : Seat → Bool) where
     where
       by : (b : Bool) → p s ≡ b → b ≡ list_any p (keys_of es)
       by true e = sym (one_there es i s v h e)
-      by false e = sym (none_there (keys_of es) (rest e))
+      by false e = sym (none_there p (keys_of es) (rest e))
 
 pub all_after : (s : Seat) (keys : List Seat) → All (λ x. is_gt (seat_cmp s x) ≡ false) keys → same_kind s.kind TripUpdate ≡ false → All (λ x. same_kind x.kind TripUpdate ≡ false) keys
 all_after s keys h k = λ i d below. after_vehicle s.kind _ _ k (h i d below)
