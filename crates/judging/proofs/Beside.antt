@@ -1,5 +1,5 @@
 -- Without a timetable the rules that ask it find nothing, so that the others find all.
-use Rattle.std.specs.Prelude.{◌≡◌, Bool, true, false, not, List, [], ◌∷◌, ◌++◌, Option, None, filter, if◌then◌else◌, cond, refl}
+use Rattle.std.specs.Prelude.{◌≡◌, Bool, true, false, not, List, [], ◌∷◌, ◌++◌, None, filter, if◌then◌else◌, refl}
 use Rattle.std.proofs.Common.{ap, sym, ◌∙◌}
 use borrow.Author.Tests.{clash}
 use Rattle.feed_values.specs.declared.slot.Slot.TheVariants.{S3}

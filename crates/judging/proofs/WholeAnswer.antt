@@ -1,6 +1,5 @@
 -- What all rules are answered at an entity is what its source answers.
 use Rattle.std.specs.Prelude.{◌≡◌, List, Option, Some, None, refl}
-use borrow.Author.Tests.{clash}
 use Rattle.feed_values.specs.Schema.{Value}
 use Rattle.feed_values.specs.Messages.{entity}
 use Rattle.timetable.specs.Timetables.{Tables}
@@ -19,33 +18,33 @@ module _ (rows : List PairRow) (heads : Heads) (k : EntityKey) (e : Value entity
   by_heads t (ask.HeadBefore slot) h = refl
   by_heads t ask.Moment h = refl
   by_heads t ask.EntitiesChanged h = refl
-  by_heads t _ h = absurd (clash h)
+  by_heads t _ h = cc
 
   pub by_local : (t : Option Tables) (q : Ask) → answered_by q ≡ by.Local → local_answer t k e q ≡ whole_answer t rows heads k e q
-  by_local None (ask.HeadNow slot) h = absurd (clash h)
-  by_local None (ask.HeadBefore slot) h = absurd (clash h)
-  by_local None ask.Moment h = absurd (clash h)
-  by_local None ask.EntitiesChanged h = absurd (clash h)
-  by_local None (ask.FirstVehicle kind trip) h = absurd (clash h)
-  by_local None (ask.HasPair kind trip vehicle) h = absurd (clash h)
-  by_local None (ask.AnyRow kind) h = absurd (clash h)
-  by_local None (ask.HasTrip kind trip) h = absurd (clash h)
-  by_local None (ask.HasVehicle kind vehicle) h = absurd (clash h)
-  by_local None (ask.FirstId feed vehicle) h = absurd (clash h)
-  by_local None (ask.FirstOccurrence feed vehicle) h = absurd (clash h)
+  by_local None (ask.HeadNow slot) h = cc
+  by_local None (ask.HeadBefore slot) h = cc
+  by_local None ask.Moment h = cc
+  by_local None ask.EntitiesChanged h = cc
+  by_local None (ask.FirstVehicle kind trip) h = cc
+  by_local None (ask.HasPair kind trip vehicle) h = cc
+  by_local None (ask.AnyRow kind) h = cc
+  by_local None (ask.HasTrip kind trip) h = cc
+  by_local None (ask.HasVehicle kind vehicle) h = cc
+  by_local None (ask.FirstId feed vehicle) h = cc
+  by_local None (ask.FirstOccurrence feed vehicle) h = cc
   by_local None (ask.Cell path) h = refl
   by_local None _ h = refl
-  by_local (Some u) (ask.HeadNow slot) h = absurd (clash h)
-  by_local (Some u) (ask.HeadBefore slot) h = absurd (clash h)
-  by_local (Some u) ask.Moment h = absurd (clash h)
-  by_local (Some u) ask.EntitiesChanged h = absurd (clash h)
-  by_local (Some u) (ask.FirstVehicle kind trip) h = absurd (clash h)
-  by_local (Some u) (ask.HasPair kind trip vehicle) h = absurd (clash h)
-  by_local (Some u) (ask.AnyRow kind) h = absurd (clash h)
-  by_local (Some u) (ask.HasTrip kind trip) h = absurd (clash h)
-  by_local (Some u) (ask.HasVehicle kind vehicle) h = absurd (clash h)
-  by_local (Some u) (ask.FirstId feed vehicle) h = absurd (clash h)
-  by_local (Some u) (ask.FirstOccurrence feed vehicle) h = absurd (clash h)
+  by_local (Some u) (ask.HeadNow slot) h = cc
+  by_local (Some u) (ask.HeadBefore slot) h = cc
+  by_local (Some u) ask.Moment h = cc
+  by_local (Some u) ask.EntitiesChanged h = cc
+  by_local (Some u) (ask.FirstVehicle kind trip) h = cc
+  by_local (Some u) (ask.HasPair kind trip vehicle) h = cc
+  by_local (Some u) (ask.AnyRow kind) h = cc
+  by_local (Some u) (ask.HasTrip kind trip) h = cc
+  by_local (Some u) (ask.HasVehicle kind vehicle) h = cc
+  by_local (Some u) (ask.FirstId feed vehicle) h = cc
+  by_local (Some u) (ask.FirstOccurrence feed vehicle) h = cc
   by_local (Some u) (ask.Cell path) h = refl
   by_local (Some u) _ h = refl
 
@@ -58,7 +57,7 @@ module _ (rows : List PairRow) (heads : Heads) (k : EntityKey) (e : Value entity
   by_rows l f None (ask.HasVehicle kind vehicle) h = refl
   by_rows l f None (ask.FirstId feed vehicle) h = refl
   by_rows l f None (ask.FirstOccurrence feed vehicle) h = refl
-  by_rows l f None _ h = absurd (clash h)
+  by_rows l f None _ h = cc
   by_rows l f (Some u) (ask.FirstVehicle kind trip) h = refl
   by_rows l f (Some u) (ask.HasPair kind trip vehicle) h = refl
   by_rows l f (Some u) (ask.AnyRow kind) h = refl
@@ -66,4 +65,4 @@ module _ (rows : List PairRow) (heads : Heads) (k : EntityKey) (e : Value entity
   by_rows l f (Some u) (ask.HasVehicle kind vehicle) h = refl
   by_rows l f (Some u) (ask.FirstId feed vehicle) h = refl
   by_rows l f (Some u) (ask.FirstOccurrence feed vehicle) h = refl
-  by_rows l f (Some u) _ h = absurd (clash h)
+  by_rows l f (Some u) _ h = cc

@@ -1,6 +1,6 @@
 use Rattle.std.proofs.Common.{◌≡◌, ◌∙◌, [], rules, subst, sym}
 use Rattle.feed_values.specs.Views.{entity_value, feed_header_value}
-use Rattle.rule_core.specs.Answered.{local_answer, tables_of}
+use Rattle.rule_core.specs.Answered.{tables_of}
 use Rattle.rule_core.specs.Clear.{AreClear}
 use Rattle.rule_core.specs.Judged.{found_all}
 use Rattle.rule_core.specs.Marked.{marked}
