@@ -4,7 +4,8 @@
 Counts instructions under valgrind (Debian's valgrind), over a snapshot in which no rule breaks, and over trips with 20 updates
 each and vehicles of three of ten, with a timetable of twice as many trips. A function's instructions count for the crate that
 its name begins with; what a crate calls of another, and what the compiler puts into a caller, counts where it stands. Memory
-calls and copies of the C library stand by themselves. The last line counts decoding and rules with all that they call.
+calls and copies of the C library stand by themselves. The last line counts decoding, freeing what was decoded, and rules, with
+all that they call.
 """
 import collections, os, re, subprocess, sys, tempfile
 from judging import trips_and_vehicles
@@ -15,8 +16,9 @@ RULES = ("rule_core", "message_rules", "schedule_rules", "pairing_rules", "histo
 # Functions that call all of decoding, or all that is done with entities: of each the call that takes most.
 DECODE = ("feed_codec::snapshot::check_snapshot", "feed_codec::message::merge::")
 JUDGE = ("rt_run::findings::send_entities", "kept_rows::rows::add_rows")
-# What is called there beside: decoding each entity, and its lines. Freeing what was decoded stays with the rules.
-BESIDE = ("feed_codec::message::merge::", "rt_run::lines::Lines::push")
+# What is called there beside: decoding each entity, freeing what was decoded, and its lines.
+FREE = "std_alloc::vec::Vec::drop::"
+BESIDE = ("feed_codec::message::merge::", FREE, "rt_run::lines::Lines::push")
 
 
 def crate_of(name):
@@ -58,7 +60,8 @@ def show(name, run):
         print("    %-16s %8.1f %6.1f %%" % (crate, count / 1e6, 100 * count / whole))
     print("    decoding (%s) %.1f, rules (%s) %.1f" % (", ".join(CODEC), sum(crates[c] for c in CODEC) / 1e6,
                                                        ", ".join(RULES), sum(crates[c] for c in RULES) / 1e6))
-    print("    with all that they call: decoding %.1f, rules %.1f" % (sum(calls[f] for f in DECODE) / 1e6, (sum(calls[f] for f in JUDGE) - sum(calls[f] for f in BESIDE)) / 1e6))
+    rules = sum(calls[f] for f in JUDGE) - sum(calls[f] for f in BESIDE)
+    print("    with all that they call: decoding %.1f and %.1f for freeing, rules %.1f" % (sum(calls[f] for f in DECODE) / 1e6, calls[FREE] / 1e6, rules / 1e6))
 
 
 def main():
