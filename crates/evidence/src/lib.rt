@@ -2,6 +2,8 @@
 //!
 //! A printed finding can be judged by whoever reads it: no snapshot, timetable or other finding is looked at. Nothing here
 //! takes memory.
+//!
+//! `breaking` is that decision.
 #![tactic(auto)]
 
 mod breaking;

@@ -3,6 +3,10 @@
 //!
 //! The rules come in groups, each with what it is answered by. `AllRules` puts the groups together; its findings are those of
 //! the whole table.
+//!
+//! `seating` counts how often an id came, which gives entities their keys; `rows` has the pairing rows of a snapshot. `all_rules`
+//! judges an entity or a header by the groups, and `ruling` puts what they find in the order of rules; `marking` marks where the rules of the
+//! whole table break, with all that they ask answered by `entity_answers`. `laws` says what a history of one snapshot is.
 #![tactic(auto)]
 
 mod all_rules;

@@ -1,5 +1,10 @@
 //! The rules on trip updates and vehicle positions together, as a group: three rows of the table of `rule_core`, which ask for
 //! the pairing rows of all entities. Beside it these rows as a set, which answers what the rules ask.
+//!
+//! `group` is the group, which `answers` answers of an entity and a list of rows (`row`). `pair_index` is the set: `names` gives texts
+//! numbers, a `seat` is a row by these numbers, `held` rows as they are held and `entry` their places in the order of a number, which
+//! `slots` keeps; `rows` finds a row by all of its numbers, `taking` takes it out, and `naming` has the keys of the rows that have a number.
+//! `laws` says which lists of rows answer alike.
 #![tactic(auto)]
 
 mod answers;

@@ -4,7 +4,7 @@
 //! trip; those that are matched set delays, and the delay of the whole trip is set before the first event; each delay
 //! goes on until the next one. `Resolver::predict` answers a row for each event, and for each update that matches no stop.
 //!
-//! From the bottom up: `source`, `setter`, `event_kind`, `row_state` and `prediction_row` are what is answered; `own` and
+//! From the bottom up: `source`, `setter`, `placed_setter` (a setter with its position), `event_kind`, `row_state` and `prediction_row` are what is answered; `own` and
 //! `event` are an event with the update of its stop; `visit` and `stops` are the stops of the trip, found by what an update
 //! names, and `matching` is the stop of each update; `setting` tells what an event's update sets, and `outcome` what is predicted; `walk` goes through the
 //! events, and `rows` makes the rows of updates; `predictions` holds what is answered, and `resolver` decides the mode.

@@ -2,6 +2,9 @@
 //!
 //! `specs/Lines.antt` says what each line holds; `compact_text` of serde_json's specs says which bytes that is. Keys stand in
 //! byte order. `specs/Predictions.antt` says which fields each row has; `row_text` of csv's specs says which bytes that is.
+//!
+//! `line` makes a line of a value, and `tokens` the members of one; `asked` has asks as JSON. `snapshot` has the lines of snapshots, `finding` and
+//! `closed` those of findings and of rules that stand no more, `trial` the sum of a trial. `prediction` has the rows, and `date_text` their dates.
 #![tactic(auto)]
 
 mod asked;

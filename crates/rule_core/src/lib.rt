@@ -10,6 +10,13 @@
 //!
 //! A `Finding` is a rule, a place and the facts that it cites there. They break the rule, in every finding that there
 //! is, so a finding can be shown by itself.
+//!
+//! From the bottom up: `kind`, `key`, `place`, `ask`, `fact` and `mark` are what a finding is made of, `finding` and `finding_list` findings;
+//! `rule` names the rules, `row` is what a row is made of and `table` all of them. `cells` are cited cells, `passing` the tests on them,
+//! `answers` what answers asks, and `schedule` what a timetable answers, with the `known_trip` of an entity looked up once. `asking` is what a
+//! row asks at a place, `citing` its facts there, and `judging` judges. `listed` judges some rules of the table, one after the other: a value that
+//! judges `rules` of one of four sorts, `local_rule`, `pair_rule` (over views of rows, `pair_view`), `bound_rule`, `head_rule`; `both` makes two
+//! groups one. `laws` says what evidence is.
 #![tactic(auto)]
 
 mod answers;
