@@ -49,9 +49,11 @@ impl Message for Alert {
     }
 
     fn with_room(alloc: Global, payload: &[u8]) -> Result<Alert, AllocError> {
+        let active_period = room_for(alloc, payload, 1)?;
+        let informed_entity = room_for(alloc, payload, 5)?;
         let mut message = Alert::empty(alloc);
-        message.active_period = room_for(alloc, payload, 1)?;
-        message.informed_entity = room_for(alloc, payload, 5)?;
+        message.active_period = active_period;
+        message.informed_entity = informed_entity;
         Ok(message)
     }
 

@@ -3,6 +3,7 @@ pub mod Groups
 pub mod Holding
 pub mod Lists
 pub mod Members
+pub mod Named
 pub mod Names
 pub mod Numbers
 pub mod Residuals

@@ -175,6 +175,14 @@ is_key (schema.text n name presence rest) key = bytes_eq key (codes name) || is_
 is_key (schema.message n name presence m rest) key = bytes_eq key (codes name) || is_key rest key
 is_key (schema.repeated n name m rest) key = bytes_eq key (codes name) || is_key rest key
 
+-- these keys, one by one
+abbrev pub names_of : Schema → List (List ℕ)
+names_of schema.end = codes "unknown" ∷ []
+names_of (schema.scalar n name presence t rest) = codes name ∷ names_of rest
+names_of (schema.text n name presence rest) = codes name ∷ names_of rest
+names_of (schema.message n name presence m rest) = codes name ∷ names_of rest
+names_of (schema.repeated n name m rest) = codes name ∷ names_of rest
+
 -- slot by slot, where `whole` is the schema with all slots
 abbrev pub slots_of : Schema → (s : Schema) → Data → Result (Value s) JsonFault
 slots_of whole schema.end d = array_at (codes "unknown") (unknown_of whole) (get (codes "unknown") d)

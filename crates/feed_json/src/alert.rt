@@ -10,15 +10,17 @@ use serde_json::{Map, Value};
 use std::alloc::{AllocError, Global};
 
 impl Form for Alert {
-    fn knows(key: &str) -> bool {
-        key == "active_period"
-            || key == "informed_entity"
-            || key == "cause"
-            || key == "effect"
-            || key == "url"
-            || key == "header_text"
-            || key == "description_text"
-            || key == "unknown"
+    fn names() -> &'static [&'static str] {
+        &[
+            "active_period",
+            "informed_entity",
+            "cause",
+            "effect",
+            "url",
+            "header_text",
+            "description_text",
+            "unknown",
+        ]
     }
 
     fn read(alloc: Global, value: &Value) -> Result<Alert, JsonFault> {
@@ -47,8 +49,8 @@ impl Form for Alert {
 }
 
 impl Form for TimeRange {
-    fn knows(key: &str) -> bool {
-        key == "start" || key == "end" || key == "unknown"
+    fn names() -> &'static [&'static str] {
+        &["start", "end", "unknown"]
     }
 
     fn read(alloc: Global, value: &Value) -> Result<TimeRange, JsonFault> {
@@ -67,13 +69,15 @@ impl Form for TimeRange {
 }
 
 impl Form for EntitySelector {
-    fn knows(key: &str) -> bool {
-        key == "agency_id"
-            || key == "route_id"
-            || key == "route_type"
-            || key == "trip"
-            || key == "stop_id"
-            || key == "unknown"
+    fn names() -> &'static [&'static str] {
+        &[
+            "agency_id",
+            "route_id",
+            "route_type",
+            "trip",
+            "stop_id",
+            "unknown",
+        ]
     }
 
     fn read(alloc: Global, value: &Value) -> Result<EntitySelector, JsonFault> {

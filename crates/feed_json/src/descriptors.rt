@@ -10,14 +10,16 @@ use serde_json::{Map, Value};
 use std::alloc::{AllocError, Global};
 
 impl Form for TripDescriptor {
-    fn knows(key: &str) -> bool {
-        key == "trip_id"
-            || key == "start_time"
-            || key == "start_date"
-            || key == "schedule_relationship"
-            || key == "route_id"
-            || key == "direction_id"
-            || key == "unknown"
+    fn names() -> &'static [&'static str] {
+        &[
+            "trip_id",
+            "start_time",
+            "start_date",
+            "schedule_relationship",
+            "route_id",
+            "direction_id",
+            "unknown",
+        ]
     }
 
     fn read(alloc: Global, value: &Value) -> Result<TripDescriptor, JsonFault> {
@@ -49,8 +51,8 @@ impl Form for TripDescriptor {
 }
 
 impl Form for VehicleDescriptor {
-    fn knows(key: &str) -> bool {
-        key == "id" || key == "label" || key == "license_plate" || key == "unknown"
+    fn names() -> &'static [&'static str] {
+        &["id", "label", "license_plate", "unknown"]
     }
 
     fn read(alloc: Global, value: &Value) -> Result<VehicleDescriptor, JsonFault> {

@@ -1,19 +1,20 @@
 //! The snapshot, its header and its entities, in JSON.
 
 use crate::json_fault::JsonFault;
-use crate::message::{Form, needed_message, optional_message, repeated};
+use crate::message::{Form, needed_message, repeated};
 use crate::reading::{needed_text, optional_bool, optional_enum, optional_u64};
+use crate::three::three_from;
 use crate::unknown::{put_unknown, unknown_fields};
 use crate::writing::{
     put_bool, put_message, put_optional, put_repeated, put_text, put_u32, put_u64,
 };
-use feed_values::{Entity, FeedHeader, FeedMessage};
+use feed_values::{Alert, Entity, FeedHeader, FeedMessage, TripUpdate, VehiclePosition};
 use serde_json::{Map, Value};
 use std::alloc::{AllocError, Global};
 
 impl Form for FeedMessage {
-    fn knows(key: &str) -> bool {
-        key == "header" || key == "entity" || key == "unknown"
+    fn names() -> &'static [&'static str] {
+        &["header", "entity", "unknown"]
     }
 
     fn read(alloc: Global, value: &Value) -> Result<FeedMessage, JsonFault> {
@@ -32,11 +33,13 @@ impl Form for FeedMessage {
 }
 
 impl Form for FeedHeader {
-    fn knows(key: &str) -> bool {
-        key == "gtfs_realtime_version"
-            || key == "incrementality"
-            || key == "timestamp"
-            || key == "unknown"
+    fn names() -> &'static [&'static str] {
+        &[
+            "gtfs_realtime_version",
+            "incrementality",
+            "timestamp",
+            "unknown",
+        ]
     }
 
     fn read(alloc: Global, value: &Value) -> Result<FeedHeader, JsonFault> {
@@ -62,23 +65,34 @@ impl Form for FeedHeader {
 }
 
 impl Form for Entity {
-    fn knows(key: &str) -> bool {
-        key == "id"
-            || key == "is_deleted"
-            || key == "trip_update"
-            || key == "vehicle"
-            || key == "alert"
-            || key == "unknown"
+    fn names() -> &'static [&'static str] {
+        &[
+            "id",
+            "is_deleted",
+            "trip_update",
+            "vehicle",
+            "alert",
+            "unknown",
+        ]
     }
 
     fn read(alloc: Global, value: &Value) -> Result<Entity, JsonFault> {
+        let id = needed_text(alloc, value, "id")?;
+        let is_deleted = optional_bool(alloc, value, "is_deleted")?;
+        let parts = three_from::<TripUpdate, VehiclePosition, Alert, Entity>(
+            alloc,
+            value,
+            "trip_update",
+            "vehicle",
+            "alert",
+        )?;
         Ok(Entity {
-            id: needed_text(alloc, value, "id")?,
-            is_deleted: optional_bool(alloc, value, "is_deleted")?,
-            trip_update: optional_message(alloc, value, "trip_update")?,
-            vehicle: optional_message(alloc, value, "vehicle")?,
-            alert: optional_message(alloc, value, "alert")?,
-            unknown: unknown_fields::<Entity>(alloc, value)?,
+            id,
+            is_deleted,
+            trip_update: parts.first,
+            vehicle: parts.second,
+            alert: parts.third,
+            unknown: parts.unknown,
         })
     }
 

@@ -22,7 +22,7 @@
 //! - `json_fault`: why a tree is no message
 //! - `paths`: where, as the path from the root
 //! - `reading`: numbers, texts and truth values from JSON, and what may or has to stand at a key
-//! - `message`: any message, from JSON and to it
+//! - `message`: any message, from JSON and to it; `three`: three messages and what stands behind them, at the end of an entity
 //! - `writing`: the members of an object, one slot at a time
 //! - `unknown`: unknown fields, from JSON and to it
 //! - `descriptors`, `translation`, `alert`, `vehicle_position`, `trip_update`, `feed`: the kinds of message
@@ -41,6 +41,7 @@ mod paths;
 mod reading;
 mod snapshot;
 mod text;
+mod three;
 mod translation;
 mod trip_update;
 mod unknown;

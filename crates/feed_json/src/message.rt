@@ -1,7 +1,7 @@
 //! Any message, from JSON and to it: what is said of every kind stands here once.
-ghost use Rattle.std.specs.Prelude.{◌≡◌, map, false, OnOk, IfOk, IfSome};
+ghost use Rattle.std.specs.Prelude.{◌≡◌, map, false, bytes_eq, OnOk, IfOk, IfSome};
 ghost use Rattle.std.specs.Option.{option_map};
-ghost use Rattle.std.specs.List.{AllByRecursion};
+ghost use Rattle.std.specs.List.{AllByRecursion, list_any};
 ghost use Rattle.serde_json.specs.Find.{get};
 ghost use Rattle.serde_json.specs.View.{view, items_view, members_view};
 ghost use Rattle.serde_json.specs.Written.{has_float};
@@ -9,7 +9,7 @@ ghost use Rattle.feed_json.specs.Form.{form, with_slots};
 ghost use Rattle.feed_json.specs.Faults.{item_key, under};
 ghost use Rattle.feed_json.specs.Holds.{Holds};
 ghost use Rattle.feed_json.specs.Reads.{Reads};
-ghost use Rattle.feed_json.specs.Unform.{unform, slots_of, is_key, first_unknown, needed_at, optional_at, array_at, each_of};
+ghost use Rattle.feed_json.specs.Unform.{unform, slots_of, is_key, names_of, first_unknown, needed_at, optional_at, array_at, each_of};
 
 use crate::json_fault::JsonFault;
 use crate::paths::{text_of, under, wrong_kind};
@@ -19,9 +19,9 @@ use std::alloc::{AllocError, Global};
 
 /// A kind of message that has a JSON form. An impl names its slots in the order of the table of messages.
 pub trait Form: Slots + Drop {
-    /// Whether a key is the name of a slot, or `unknown`.
-    fn knows(key: &str) -> bool
-        ensures { result ≡ is_key Self.schema key.now };
+    /// The names of the slots, and last `unknown`.
+    fn names() -> &'static [&'static str]
+        ensures { map (λ name. name.now) result.now ≡ names_of Self.schema };
 
     /// The message of an object whose keys are known, slot by slot.
     fn read(alloc: Global, value: &Value) -> Result<Self, JsonFault>
@@ -37,8 +37,8 @@ pub trait Form: Slots + Drop {
 
 /// A message in a box has the form of the message.
 impl<M: Form + Blank> Form for Boxed<M> {
-    fn knows(key: &str) -> bool {
-        M::knows(key)
+    fn names() -> &'static [&'static str] {
+        M::names()
     }
 
     fn read(alloc: Global, value: &Value) -> Result<Boxed<M>, JsonFault> {
@@ -53,12 +53,26 @@ impl<M: Form + Blank> Form for Boxed<M> {
     }
 }
 
+/// Whether a key is one of these names.
+fn is_among(key: &str, names: &[&str]) -> bool
+    ensures { result ≡ list_any (λ name. bytes_eq key.now name.now) names.now }
+{
+    names.iter().any(|name| key == *name)
+}
+
+/// Whether a key is one that a kind of message has.
+fn knows<M: Form>(key: &str) -> bool
+    ensures { result ≡ is_key M.schema key.now }
+{
+    is_among(key, M::names())
+}
+
 /// The first key, in byte order, that a kind of message hasn't.
 fn unknown_key<M: Form>(members: &Map<String, Value>) -> Option<&str>
     ensures { option_map (λ key. key.now) result ≡ first_unknown (is_key M.schema) (members_view members.now.entries) }
 {
     for (key, _) in members {
-        if !M::knows(key.as_str()) {
+        if !knows::<M>(key.as_str()) {
             return Some(key.as_str());
         }
     }

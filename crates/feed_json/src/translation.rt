@@ -10,8 +10,8 @@ use serde_json::{Map, Value};
 use std::alloc::{AllocError, Global};
 
 impl Form for TranslatedString {
-    fn knows(key: &str) -> bool {
-        key == "translation" || key == "unknown"
+    fn names() -> &'static [&'static str] {
+        &["translation", "unknown"]
     }
 
     fn read(alloc: Global, value: &Value) -> Result<TranslatedString, JsonFault> {
@@ -28,8 +28,8 @@ impl Form for TranslatedString {
 }
 
 impl Form for Translation {
-    fn knows(key: &str) -> bool {
-        key == "text" || key == "language" || key == "unknown"
+    fn names() -> &'static [&'static str] {
+        &["text", "language", "unknown"]
     }
 
     fn read(alloc: Global, value: &Value) -> Result<Translation, JsonFault> {

@@ -14,13 +14,15 @@ use serde_json::{Map, Value};
 use std::alloc::{AllocError, Global};
 
 impl Form for TripUpdate {
-    fn knows(key: &str) -> bool {
-        key == "trip"
-            || key == "stop_time_update"
-            || key == "vehicle"
-            || key == "timestamp"
-            || key == "delay"
-            || key == "unknown"
+    fn names() -> &'static [&'static str] {
+        &[
+            "trip",
+            "stop_time_update",
+            "vehicle",
+            "timestamp",
+            "delay",
+            "unknown",
+        ]
     }
 
     fn read(alloc: Global, value: &Value) -> Result<TripUpdate, JsonFault> {
@@ -45,13 +47,15 @@ impl Form for TripUpdate {
 }
 
 impl Form for StopTimeUpdate {
-    fn knows(key: &str) -> bool {
-        key == "stop_sequence"
-            || key == "arrival"
-            || key == "departure"
-            || key == "stop_id"
-            || key == "schedule_relationship"
-            || key == "unknown"
+    fn names() -> &'static [&'static str] {
+        &[
+            "stop_sequence",
+            "arrival",
+            "departure",
+            "stop_id",
+            "schedule_relationship",
+            "unknown",
+        ]
     }
 
     fn read(alloc: Global, value: &Value) -> Result<StopTimeUpdate, JsonFault> {
@@ -81,8 +85,8 @@ impl Form for StopTimeUpdate {
 }
 
 impl Form for StopTimeEvent {
-    fn knows(key: &str) -> bool {
-        key == "delay" || key == "time" || key == "uncertainty" || key == "unknown"
+    fn names() -> &'static [&'static str] {
+        &["delay", "time", "uncertainty", "unknown"]
     }
 
     fn read(alloc: Global, value: &Value) -> Result<StopTimeEvent, JsonFault> {

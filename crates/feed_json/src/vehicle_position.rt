@@ -1,5 +1,13 @@
 //! Vehicle positions and what they hold, in JSON.
 
+ghost use Rattle.std.specs.Prelude.{◌≡◌, IfOk};
+ghost use Rattle.serde_json.specs.View.{view};
+ghost use Rattle.feed_values.specs.Messages.{vehicle_position};
+ghost use Rattle.feed_values.specs.Views.{vehicle_position_value};
+ghost use Rattle.feed_json.specs.Holds.{Holds};
+ghost use Rattle.feed_json.specs.Reads.{Reads};
+ghost use Rattle.feed_json.specs.Unform.{slots_of};
+
 use crate::json_fault::JsonFault;
 use crate::message::{Form, optional_message};
 use crate::reading::{
@@ -8,37 +16,64 @@ use crate::reading::{
 };
 use crate::unknown::{put_unknown, unknown_fields};
 use crate::writing::{put_needed_u32, put_optional, put_optional_text, put_u32, put_u64};
-use feed_values::{Position, VehiclePosition};
+use feed_values::{Items, Position, VehiclePosition};
 use serde_json::{Map, Value};
 use std::alloc::{AllocError, Global};
 
+/// A position of which nothing was read.
+fn empty(alloc: Global) -> VehiclePosition {
+    VehiclePosition {
+        trip: None,
+        position: None,
+        current_stop_sequence: None,
+        current_status: None,
+        timestamp: None,
+        congestion_level: None,
+        stop_id: None,
+        vehicle: None,
+        occupancy_status: None,
+        unknown: Items::new(alloc),
+    }
+}
+
+/// Reads each slot to where it stands, so that nothing is owned where one has a fault.
+fn fill(alloc: Global, value: &Value, message: &mut VehiclePosition) -> Result<(), JsonFault>
+    ensures read { Reads (λ _. vehicle_position_value message.new) (slots_of vehicle_position vehicle_position (view value.now)) result }
+    ensures fits { IfOk result (λ _. Holds vehicle_position vehicle_position (vehicle_position_value message.new)) }
+{
+    message.trip = optional_message(alloc, value, "trip")?;
+    message.position = optional_message(alloc, value, "position")?;
+    message.current_stop_sequence = optional_u32(alloc, value, "current_stop_sequence")?;
+    message.current_status = optional_enum(alloc, value, "current_status", 0, 2)?;
+    message.timestamp = optional_u64(alloc, value, "timestamp")?;
+    message.congestion_level = optional_enum(alloc, value, "congestion_level", 0, 4)?;
+    message.stop_id = optional_text(alloc, value, "stop_id")?;
+    message.vehicle = optional_message(alloc, value, "vehicle")?;
+    message.occupancy_status = optional_enum(alloc, value, "occupancy_status", 0, 6)?;
+    message.unknown = unknown_fields::<VehiclePosition>(alloc, value)?;
+    Ok(())
+}
+
 impl Form for VehiclePosition {
-    fn knows(key: &str) -> bool {
-        key == "trip"
-            || key == "position"
-            || key == "current_stop_sequence"
-            || key == "current_status"
-            || key == "timestamp"
-            || key == "congestion_level"
-            || key == "stop_id"
-            || key == "vehicle"
-            || key == "occupancy_status"
-            || key == "unknown"
+    fn names() -> &'static [&'static str] {
+        &[
+            "trip",
+            "position",
+            "current_stop_sequence",
+            "current_status",
+            "timestamp",
+            "congestion_level",
+            "stop_id",
+            "vehicle",
+            "occupancy_status",
+            "unknown",
+        ]
     }
 
     fn read(alloc: Global, value: &Value) -> Result<VehiclePosition, JsonFault> {
-        Ok(VehiclePosition {
-            trip: optional_message(alloc, value, "trip")?,
-            position: optional_message(alloc, value, "position")?,
-            current_stop_sequence: optional_u32(alloc, value, "current_stop_sequence")?,
-            current_status: optional_enum(alloc, value, "current_status", 0, 2)?,
-            timestamp: optional_u64(alloc, value, "timestamp")?,
-            congestion_level: optional_enum(alloc, value, "congestion_level", 0, 4)?,
-            stop_id: optional_text(alloc, value, "stop_id")?,
-            vehicle: optional_message(alloc, value, "vehicle")?,
-            occupancy_status: optional_enum(alloc, value, "occupancy_status", 0, 6)?,
-            unknown: unknown_fields::<VehiclePosition>(alloc, value)?,
-        })
+        let mut message = Box::new(alloc, empty(alloc)).map_err(AllocError::from)?;
+        fill(alloc, value, &mut message)?;
+        Ok(Box::into_inner(message))
     }
 
     fn put(&self, alloc: Global, members: &mut Map<String, Value>) -> Result<(), AllocError> {
@@ -61,13 +96,15 @@ impl Form for VehiclePosition {
 }
 
 impl Form for Position {
-    fn knows(key: &str) -> bool {
-        key == "latitude"
-            || key == "longitude"
-            || key == "bearing"
-            || key == "odometer"
-            || key == "speed"
-            || key == "unknown"
+    fn names() -> &'static [&'static str] {
+        &[
+            "latitude",
+            "longitude",
+            "bearing",
+            "odometer",
+            "speed",
+            "unknown",
+        ]
     }
 
     fn read(alloc: Global, value: &Value) -> Result<Position, JsonFault> {

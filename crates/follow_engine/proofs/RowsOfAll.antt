@@ -172,7 +172,7 @@ module _ (feeds : List HeldFeed) (rooms : AreRooms feeds) where
   pub values_ordered : ordered_after [] (all_values feeds) ≡ all_values feeds
   values_ordered = ordered-rising (all_values feeds) (subst (λ (es : List seat.Seat). Rising es) (sym (values-keyed feeds)) (rises_value (all_keyed feeds) keyed_rise))
 
-  rows-values : seat_rows (all_values feeds) ≡ rows_held (feed_at feeds)
+  pub rows-values : seat_rows (all_values feeds) ≡ rows_held (feed_at feeds)
   rows-values = ap seat_rows (values-keyed feeds) ∙ flat_map-map (λ e. rows_of e.0 e.1) value_of (all_keyed feeds) ∙ rows-keyed feeds ∙ rows-below
 
   module _ (t : Option Tables) (rows : List PairRow) (finds : (heads : Heads) → found_at_seats t rows heads (all_values feeds) ≡ found_at_seats t (seat_rows (all_values feeds)) heads (all_values feeds)) where

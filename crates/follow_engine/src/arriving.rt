@@ -1,9 +1,11 @@
 //! A snapshot takes the place of the one before it.
 ghost use Rattle.std.specs.Prelude.{◌≡◌, ◌<◌, ◌≤◌, ℕ, length, IfOk, OnOk};
-ghost use Rattle.rule_core.specs.Changed.{differ};
+ghost use Rattle.rule_core.specs.Changed.{changed_rows, differ};
 ghost use Rattle.engine_laws.specs.HeldFeeds.{feed_at};
-ghost use Rattle.follow_engine.specs.Arrived.{IsSettled, HasCome};
+ghost use Rattle.follow_engine.specs.Arrived.{IsSettled, HasCome, with_last};
+ghost use Rattle.follow_engine.specs.GivesIds.{GiveIds};
 ghost use Rattle.follow_engine.specs.Rooms.{AreRooms, held, feeds_of};
+ghost use Rattle.follow_engine.specs.Rowed.{room_rows};
 
 use crate::arrival::Arrival;
 use crate::changes::{ChangedIds, Changes};
@@ -24,23 +26,42 @@ pub(crate) struct Settled {
     pub ids: ChangedIds,
 }
 
-fn settle(alloc: Global, taken: Taken, old: Option<Room>) -> Result<Settled, AllocError>
-    ensures { IfOk result (IsSettled taken (held old)) }
+// The ids of the pairing rows that come or go with a snapshot.
+fn changed_ids(alloc: Global, taken: &Taken, old: &Option<Room>) -> Result<ChangedIds, AllocError>
+    ensures { IfOk result (λ ids. GiveIds ids (changed_rows (room_rows (held old.now)) (room_rows (with_last taken.now (held old.now))))) }
 {
     let mut ids = ChangedIds::new(alloc);
     match old {
         None => {
             ids.put_seats(alloc, taken.seats(), None)?;
+            Ok(ids)
+        }
+        Some(room) => {
+            let before = room.taken.seats();
+            ids.put_seats(alloc, before, Some(taken.seats()))?;
+            ids.put_seats(alloc, taken.seats(), Some(before))?;
+            Ok(ids)
+        }
+    }
+}
+
+// Puts a snapshot in the place of the one before it. It takes no memory.
+fn settle(alloc: Global, taken: Taken, old: Option<Room>, ids: ChangedIds) -> Settled
+    requires { GiveIds ids (changed_rows (room_rows (held old)) (room_rows (with_last taken (held old)))) }
+    ensures { IsSettled taken (held old) result }
+{
+    match old {
+        None => {
             let room = Room {
                 taken,
                 header: Items::new(alloc),
                 entities: BTreeMap::new(alloc),
             };
-            Ok(Settled {
+            Settled {
                 room,
                 before: None,
                 ids,
-            })
+            }
         }
         Some(room) => {
             let Room {
@@ -48,18 +69,16 @@ fn settle(alloc: Global, taken: Taken, old: Option<Room>) -> Result<Settled, All
                 header,
                 entities,
             } = room;
-            ids.put_seats(alloc, before.seats(), Some(taken.seats()))?;
-            ids.put_seats(alloc, taken.seats(), Some(before.seats()))?;
             let room = Room {
                 taken,
                 header,
                 entities,
             };
-            Ok(Settled {
+            Settled {
                 room,
                 before: Some(before),
                 ids,
-            })
+            }
         }
     }
 }
@@ -98,8 +117,9 @@ pub(crate) fn arrive(
     let had = kinds_of(rooms);
     make_place(rooms, feed)?;
     let place = feed as usize;
+    let ids = changed_ids(alloc, &taken, &rooms[place])?;
     let old = mem::replace(&mut rooms[place], None);
-    let Settled { room, before, ids } = settle(alloc, taken, old)?;
+    let Settled { room, before, ids } = settle(alloc, taken, old, ids);
     rooms[place] = Some(room);
     let has = kinds_of(rooms);
     Ok(Arrival {

@@ -5,6 +5,10 @@
 //! `rows` gives the pairing rows of all feeds, `renewing` judges a header and entities anew, `walking` compares what was found
 //! with what is, `counting` counts entities, `rooms` does it feed by feed, and `following` all of it. `findings` hands out what is
 //! held.
+//!
+//! What they speak of: `arrival` is a snapshot that came, `delta` what it changes, `room` what is held of a feed and `feeds` of all of them,
+//! `seat` an entity as it is held, `standing` a finding since a snapshot, `ids` what a trip update or vehicle position gives. `order` is the
+//! order of findings; `same` compares facts, and `parts` has what their asks are made of.
 #![tactic(auto)]
 
 mod arrival;

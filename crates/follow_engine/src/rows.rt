@@ -2,6 +2,7 @@
 ghost use Rattle.std.specs.Prelude.{◌≡◌, ℕ, Option, OnOk, IfOk};
 ghost use Rattle.timetable.specs.Timetables.{Tables};
 ghost use Rattle.rule_core.specs.History.{ordered_after};
+ghost use Rattle.pairing_rules.specs.ByKind.{AreAlike};
 ghost use Rattle.judging.specs.Seats.{seat_values};
 ghost use Rattle.engine_laws.specs.HeldFeeds.{entities_found, feed_at, rows_held};
 ghost use Rattle.follow_engine.specs.Rooms.{AreRooms, held, feeds_of};
@@ -59,11 +60,12 @@ fn all_entities<'a>(
     Ok(all)
 }
 
-/// The pairing rows of all feeds, as an index: with it the entities have the findings that they have with the rows in the order of
-/// their keys.
+/// The pairing rows of all feeds, as an index: of each kind those of the rows in the order of keys, and in their order. So the
+/// entities have the same findings with both.
 pub(crate) fn rows_of_rooms(alloc: Global, rooms: &[Option<Room>]) -> Result<PairIndex, AllocError>
     requires { AreRooms (feeds_of rooms.now) }
-    ensures { IfOk result (λ rows. (t : Option Tables) (f : ℕ) → entities_found t rows (feed_at (feeds_of rooms.now) f).last
+    ensures alike { IfOk result (λ rows. AreAlike rows (rows_held (feed_at (feeds_of rooms.now)))) }
+    ensures found { IfOk result (λ rows. (t : Option Tables) (f : ℕ) → entities_found t rows (feed_at (feeds_of rooms.now) f).last
         ≡ entities_found t (rows_held (feed_at (feeds_of rooms.now))) (feed_at (feeds_of rooms.now) f).last) }
 {
     let all = all_entities(alloc, rooms)?;

@@ -20,7 +20,7 @@ first_closed old ys zs e n = e ∙ ap (λ xs. all_closed xs ++ zs) n
 pub returns-clause-all : goal.returns-clause-all
 returns-clause-all g c = record {
   rows = c.in_ok-rows.rows;
-  rows_are = subst (λ v. (t : Option Tables) (f : ℕ) → entities_found t c.in_ok-rows.rows (feed_at (feeds_of v) f).last ≡ entities_found t (rows_held (feed_at (feeds_of v))) (feed_at (feeds_of v) f).last) c.deref.ensures.value c.in_ok-rows.ensures;
+  rows_are = subst (λ v. (t : Option Tables) (f : ℕ) → entities_found t c.in_ok-rows.rows (feed_at (feeds_of v) f).last ≡ entities_found t (rows_held (feed_at (feeds_of v))) (feed_at (feeds_of v) f).last) c.deref.ensures.value c.in_ok-rows.ensures.found;
   new_is = c.in_ok-rooms.ensures.next;
   number_is = refl;
   opened_is = first_opened _ _ _ c.in_ok-rooms.ensures.opens c.new-opened.ensures;
