@@ -1,11 +1,12 @@
--- Rows of trip updates and then those of vehicle positions answer as the rows of all entities in the order of their keys.
-use Rattle.std.specs.Prelude.{◌≡◌, ℕ, Bool, true, false, ◌&&◌, ◌||◌, ◌==◌, List, [], ◌∷◌, ◌++◌, Option, Some, None, option_map, option_and_then, is_some, cond, refl}
-use Rattle.std.specs.Option.{option_or}
-use Rattle.std.specs.List.{flat_map, list_any, find}
+-- Rows of trip updates and then those of vehicle positions are alike with the rows of all entities in the order of their keys, so they
+-- answer alike.
+use Rattle.std.specs.Prelude.{◌≡◌, ℕ, Bool, List, [], ◌∷◌, ◌++◌, Option, Some, None, filter, refl}
+use Rattle.std.specs.List.{flat_map}
 use Rattle.std.specs.declared.cmp.Ordering.TheVariants as order
 use Rattle.std.specs.Ordering.{ordering_then, ordering_reverse, match_ordering}
 use Rattle.std.specs.BTreeSet.{insert_key}
 use Rattle.std.proofs.Common.{sym, ap, ◌∙◌, subst, append_assoc, append-nil}
+use Rattle.std.proofs.lemmas.List.Elements.{filter-append}
 use Rattle.feed_values.specs.Schema.{Value}
 use Rattle.feed_values.specs.Messages.{entity, trip_update, vehicle_position}
 use Rattle.timetable.specs.Timetables.{Tables}
@@ -19,12 +20,12 @@ use Rattle.rule_core.specs.Judged.{found_all, update_of}
 use Rattle.rule_core.specs.Groups.{Each}
 use Rattle.rule_core.specs.GroupLaws.{each_append, each_weaken}
 use Rattle.rule_core.specs.CitedLaws.{both_same}
-use Rattle.rule_core.specs.Pairs.{PairRow, rows_of, update_rows, vehicle_rows, vehicle_of, is_of, is_id}
-use Rattle.rule_core.specs.PairAgree.{Agree, AgreeOnRow}
+use Rattle.rule_core.specs.Pairs.{PairRow, update_rows, vehicle_rows, vehicle_of, is_of}
 use Rattle.feed_values.specs.Snapshot.{timestamp_of}
 use Rattle.message_rules.specs.Message.{message_rules}
 use Rattle.schedule_rules.specs.Schedule.{schedule_rules}
 use Rattle.pairing_rules.specs.Agreeing.{rules_agree}
+use Rattle.pairing_rules.specs.ByKind.{AreAlike, alike-agree}
 use Rattle.pairing_rules.specs.Rows.{row_cmp, id_cmp}
 use Rattle.pairing_rules.proofs.Order.{rows_total}
 use Rattle.history_rules.specs.Rules.{bound_rules}
@@ -142,136 +143,66 @@ all_rise es h =
     (parts_kind kind.Vehicle vehicles (λ e. vehicle_from e.0 (vehicle_of e.1)) (λ e. vehicle_alone e.0 (vehicle_of e.1)) es))
     (update_rows_of es) (parts_kind kind.TripUpdate updates (λ e. update_from e.0 (update_of e.1)) (λ e. update_alone e.0 (update_of e.1)) es))
 
--- ---- they answer alike
-any-append : (q : PairRow → Bool) (xs ys : List PairRow) → list_any q (xs ++ ys) ≡ (list_any q xs || list_any q ys)
-any-append q [] ys = refl
-any-append q (x ∷ xs) ys = ap (λ b. q x || b) (any-append q xs ys) ∙ turned (q x) (list_any q xs) (list_any q ys)
-  where
-    turned : (a b c : Bool) → (a || (b || c)) ≡ ((a || b) || c)
-    turned true b c = refl
-    turned false b c = refl
+-- ---- they are alike
+none_in : (p : PairRow → Bool) (part : Seat → List PairRow) → ((e : Seat) → filter p (part e) ≡ []) → (es : List Seat) → filter p (flat_map part es) ≡ []
+none_in p part none [] = refl
+none_in p part none (e ∷ es) = filter-append p (part e) (flat_map part es) ∙ ap (λ xs. xs ++ filter p (flat_map part es)) (none e) ∙ none_in p part none es
 
-crossed : (a b c d : Bool) → ((a || b) || (c || d)) ≡ ((a || c) || (b || d))
-crossed true b c d = refl
-crossed false true true d = refl
-crossed false true false d = refl
-crossed false false c d = refl
-
-any_same : (q : PairRow → Bool) (es : List Seat) → list_any q (update_rows_of es ++ vehicle_rows_of es) ≡ list_any q (seat_rows es)
-any_same q [] = refl
-any_same q (e ∷ es) =
-    any-append q (updates e ++ update_rows_of es) (vehicles e ++ vehicle_rows_of es)
-    ∙ ap (λ b. b || list_any q (vehicles e ++ vehicle_rows_of es)) (any-append q (updates e) (update_rows_of es))
-    ∙ ap (λ b. (list_any q (updates e) || list_any q (update_rows_of es)) || b) (any-append q (vehicles e) (vehicle_rows_of es))
-    ∙ crossed (list_any q (updates e)) (list_any q (update_rows_of es)) (list_any q (vehicles e)) (list_any q (vehicle_rows_of es))
-    ∙ ap (λ b. (list_any q (updates e) || list_any q (vehicles e)) || b) (sym (any-append q (update_rows_of es) (vehicle_rows_of es)) ∙ any_same q es)
-    ∙ ap (λ b. b || list_any q (seat_rows es)) (sym (any-append q (updates e) (vehicles e)))
-    ∙ sym (any-append q (updates e ++ vehicles e) (seat_rows es))
-
-find-append : (p : PairRow → Bool) (xs ys : List PairRow) → find p (xs ++ ys) ≡ option_or (find p xs) (find p ys)
-find-append p [] ys = refl
-find-append p (x ∷ xs) ys = either (p x) (find-append p xs ys)
-  where
-    either : (b : Bool) → find p (xs ++ ys) ≡ option_or (find p xs) (find p ys) → cond b (Some x) (find p (xs ++ ys)) ≡ option_or (cond b (Some x) (find p xs)) (find p ys)
-    either true h = refl
-    either false h = h
-
-find_none : (p : PairRow → Bool) (xs : List PairRow) → Each (λ r. p r ≡ false) xs → find p xs ≡ None
-find_none p [] h = refl
-find_none p (x ∷ xs) h = ap (λ b. cond b (Some x) (find p xs)) h.0 ∙ find_none p xs h.1
-
-or_none : (o : Option PairRow) → option_or o None ≡ o
-or_none None = refl
-or_none (Some x) = refl
-
--- where one of two kinds never passes, what is found is the other's
+-- where one of two kinds never passes, what passes is the other's
 module _ (p : PairRow → Bool) where
-  first_is : ((k : EntityKey) (o : Option (Value vehicle_position)) → Each (λ r. p r ≡ false) (vehicle_rows k o)) → (es : List Seat) → find p (seat_rows es) ≡ find p (update_rows_of es)
-  first_is n [] = refl
-  first_is n (e ∷ es) =
-      find-append p (updates e ++ vehicles e) (seat_rows es)
-      ∙ ap (λ o. option_or o (find p (seat_rows es))) (find-append p (updates e) (vehicles e) ∙ ap (option_or (find p (updates e))) (find_none p (vehicles e) (n e.0 (vehicle_of e.1))) ∙ or_none (find p (updates e)))
-      ∙ ap (option_or (find p (updates e))) (first_is n es) ∙ sym (find-append p (updates e) (update_rows_of es))
+  updates_pass : ((e : Seat) → filter p (vehicles e) ≡ []) → (es : List Seat) → filter p (seat_rows es) ≡ filter p (update_rows_of es)
+  updates_pass none [] = refl
+  updates_pass none (e ∷ es) =
+      filter-append p (updates e ++ vehicles e) (seat_rows es)
+      ∙ ap (λ xs. xs ++ filter p (seat_rows es)) (filter-append p (updates e) (vehicles e) ∙ ap (λ xs. filter p (updates e) ++ xs) (none e) ∙ append-nil (filter p (updates e)))
+      ∙ ap (λ xs. filter p (updates e) ++ xs) (updates_pass none es) ∙ sym (filter-append p (updates e) (update_rows_of es))
 
-  second_is : ((k : EntityKey) (o : Option (Value trip_update)) → Each (λ r. p r ≡ false) (update_rows k o)) → (es : List Seat) → find p (seat_rows es) ≡ find p (vehicle_rows_of es)
-  second_is n [] = refl
-  second_is n (e ∷ es) =
-      find-append p (updates e ++ vehicles e) (seat_rows es)
-      ∙ ap (λ o. option_or o (find p (seat_rows es))) (find-append p (updates e) (vehicles e) ∙ ap (λ o. option_or o (find p (vehicles e))) (find_none p (updates e) (n e.0 (update_of e.1))))
-      ∙ ap (option_or (find p (vehicles e))) (second_is n es) ∙ sym (find-append p (vehicles e) (vehicle_rows_of es))
+  vehicles_pass : ((e : Seat) → filter p (updates e) ≡ []) → (es : List Seat) → filter p (seat_rows es) ≡ filter p (vehicle_rows_of es)
+  vehicles_pass none [] = refl
+  vehicles_pass none (e ∷ es) =
+      filter-append p (updates e ++ vehicles e) (seat_rows es)
+      ∙ ap (λ xs. xs ++ filter p (seat_rows es)) (filter-append p (updates e) (vehicles e) ∙ ap (λ xs. xs ++ filter p (vehicles e)) (none e))
+      ∙ ap (λ xs. filter p (vehicles e) ++ xs) (vehicles_pass none es) ∙ sym (filter-append p (vehicles e) (vehicle_rows_of es))
 
-  none_in : (part : Seat → List PairRow) → ((e : Seat) → Each (λ r. p r ≡ false) (part e)) → (es : List Seat) → Each (λ r. p r ≡ false) (flat_map part es)
-  none_in part n [] = tt
-  none_in part n (e ∷ es) = each_append (λ r. p r ≡ false) (part e) (flat_map part es) (n e) (none_in part n es)
+no_update : (k : EntityKey) (o : Option (Value trip_update)) → filter (is_of kind.Vehicle) (update_rows k o) ≡ []
+no_update k None = refl
+no_update k (Some u) = refl
 
-  find_updates : ((k : EntityKey) (o : Option (Value vehicle_position)) → Each (λ r. p r ≡ false) (vehicle_rows k o)) → (es : List Seat) → find p (update_rows_of es ++ vehicle_rows_of es) ≡ find p (seat_rows es)
-  find_updates n es =
-      find-append p (update_rows_of es) (vehicle_rows_of es)
-      ∙ ap (option_or (find p (update_rows_of es))) (find_none p (vehicle_rows_of es) (none_in vehicles (λ e. n e.0 (vehicle_of e.1)) es)) ∙ or_none (find p (update_rows_of es)) ∙ sym (first_is n es)
-
-  find_vehicles : ((k : EntityKey) (o : Option (Value trip_update)) → Each (λ r. p r ≡ false) (update_rows k o)) → (es : List Seat) → find p (update_rows_of es ++ vehicle_rows_of es) ≡ find p (seat_rows es)
-  find_vehicles n es =
-      find-append p (update_rows_of es) (vehicle_rows_of es)
-      ∙ ap (λ o. option_or o (find p (vehicle_rows_of es))) (find_none p (update_rows_of es) (none_in updates (λ e. n e.0 (update_of e.1)) es)) ∙ sym (second_is n es)
-
-abbrev gives : Kind → List ℕ → PairRow → Bool
-gives K trip r = is_of K r && is_id trip r.trip && is_some r.vehicle
-
-first_same : (K : Kind) (trip : List ℕ) (es : List Seat) → find (gives K trip) (update_rows_of es ++ vehicle_rows_of es) ≡ find (gives K trip) (seat_rows es)
-first_same kind.TripUpdate trip es = find_updates (gives kind.TripUpdate trip) none es
-  where
-    none : (k : EntityKey) (o : Option (Value vehicle_position)) → Each (λ r. gives kind.TripUpdate trip r ≡ false) (vehicle_rows k o)
-    none k None = tt
-    none k (Some v) = (refl, tt)
-first_same kind.Vehicle trip es = find_vehicles (gives kind.Vehicle trip) none es
-  where
-    none : (k : EntityKey) (o : Option (Value trip_update)) → Each (λ r. gives kind.Vehicle trip r ≡ false) (update_rows k o)
-    none k None = tt
-    none k (Some v) = (refl, tt)
-
-abbrev gives_in : ℕ → List ℕ → PairRow → Bool
-gives_in feed vehicle r = is_of kind.Vehicle r && (r.key.feed == feed) && is_id vehicle r.vehicle
-
-key_same : (feed : ℕ) (vehicle : List ℕ) (es : List Seat) → find (gives_in feed vehicle) (update_rows_of es ++ vehicle_rows_of es) ≡ find (gives_in feed vehicle) (seat_rows es)
-key_same feed vehicle es = find_vehicles (gives_in feed vehicle) none es
-  where
-    none : (k : EntityKey) (o : Option (Value trip_update)) → Each (λ r. gives_in feed vehicle r ≡ false) (update_rows k o)
-    none k None = tt
-    none k (Some v) = (refl, tt)
+no_vehicle : (k : EntityKey) (o : Option (Value vehicle_position)) → filter (is_of kind.TripUpdate) (vehicle_rows k o) ≡ []
+no_vehicle k None = refl
+no_vehicle k (Some v) = refl
 
 module _ (es : List Seat) where
   abbrev kinds : List PairRow
   kinds = update_rows_of es ++ vehicle_rows_of es
 
-  on_row : (feed : ℕ) (r : PairRow) → AgreeOnRow kinds (seat_rows es) feed r
-  on_row feed r = record {
-    trip = λ t h. record { has = λ k. any_same (λ s. is_of k s && is_id t s.trip) es; first = λ k. ap (option_and_then (λ s. s.vehicle)) (first_same k t es) };
-    vehicle = λ w h. record { has = λ k. any_same (λ s. is_of k s && is_id w s.vehicle) es; first = ap (option_map (λ s. s.key)) (key_same feed w es) };
-    pair = λ t w h m k. any_same (λ s. is_of k s && is_id t s.trip && is_id w s.vehicle) es;
-  }
+  kinds_alike : AreAlike kinds (seat_rows es)
+  kinds_alike kind.TripUpdate =
+      filter-append (is_of kind.TripUpdate) (update_rows_of es) (vehicle_rows_of es)
+      ∙ ap (λ xs. filter (is_of kind.TripUpdate) (update_rows_of es) ++ xs) (none_in (is_of kind.TripUpdate) vehicles (λ e. no_vehicle e.0 (vehicle_of e.1)) es)
+      ∙ append-nil (filter (is_of kind.TripUpdate) (update_rows_of es))
+      ∙ sym (updates_pass (is_of kind.TripUpdate) (λ e. no_vehicle e.0 (vehicle_of e.1)) es)
+  kinds_alike kind.Vehicle =
+      filter-append (is_of kind.Vehicle) (update_rows_of es) (vehicle_rows_of es)
+      ∙ ap (λ xs. xs ++ filter (is_of kind.Vehicle) (vehicle_rows_of es)) (none_in (is_of kind.Vehicle) updates (λ e. no_update e.0 (update_of e.1)) es)
+      ∙ sym (vehicles_pass (is_of kind.Vehicle) (λ e. no_update e.0 (update_of e.1)) es)
 
-  each_row : (feed : ℕ) (rs : List PairRow) → Each (AgreeOnRow kinds (seat_rows es) feed) rs
-  each_row feed [] = tt
-  each_row feed (r ∷ rs) = (on_row feed r, each_row feed rs)
-
-  agrees : (k : EntityKey) (e : Value entity) → Agree kinds (seat_rows es) k e
-  agrees k e = record { any = λ K. any_same (is_of K) es; rows = each_row k.feed (rows_of k e) }
-
-  found_same : (t : Option Tables) (heads : Heads) (k : EntityKey) (e : Value entity) → entity_found t kinds heads k e ≡ entity_found t (seat_rows es) heads k e
-  found_same t heads k e =
-      sym (joined t kinds heads k e)
+  -- rows that are alike find the same
+  alike_found : (rows : List PairRow) → AreAlike rows (seat_rows es) → (t : Option Tables) (heads : Heads) (k : EntityKey) (e : Value entity) → entity_found t rows heads k e ≡ entity_found t (seat_rows es) heads k e
+  alike_found rows alike t heads k e =
+      sym (joined t rows heads k e)
       ∙ ap (λ ps. in_rule_order (((found_all message_rules (local_answer t k e) k e ++ found_all schedule_rules (local_answer t k e) k e) ++ ps) ++ found_all bound_rules (bound_answer (timestamp_of heads.header) heads.moment k e) k e))
-      (rules_agree kinds (seat_rows es) k e (agrees k e))
+      (rules_agree rows (seat_rows es) k e (alike-agree rows (seat_rows es) alike k e))
       ∙ joined t (seat_rows es) heads k e
 
-  all_found : (t : Option Tables) (heads : Heads) (ds : List Seat) → found_at_seats t kinds heads ds ≡ found_at_seats t (seat_rows es) heads ds
-  all_found t heads [] = refl
-  all_found t heads (d ∷ ds) = both_same (found_same t heads d.0 d.1) (all_found t heads ds)
+  pub all_found : (rows : List PairRow) → AreAlike rows (seat_rows es) → (t : Option Tables) (heads : Heads) (ds : List Seat) → found_at_seats t rows heads ds ≡ found_at_seats t (seat_rows es) heads ds
+  all_found rows alike t heads [] = refl
+  all_found rows alike t heads (d ∷ ds) = both_same (alike_found rows alike t heads d.0 d.1) (all_found rows alike t heads ds)
 
-  pub index_found : (rows : List PairRow) → rows ≡ put_rows (put_rows [] (update_rows_of es)) (vehicle_rows_of es) → Rising es → (t : Option Tables) (heads : Heads) → found_at_seats t rows heads es ≡ found_at_seats t (seat_rows es) heads es
-  index_found rows is h t heads =
-      ap (λ r. found_at_seats t r heads es) (is ∙ sym (put_append [] (update_rows_of es) (vehicle_rows_of es)) ∙ put_rising [] kinds (all_rise es h))
-      ∙ all_found t heads es
+  pub index_alike : (rows : List PairRow) → rows ≡ put_rows (put_rows [] (update_rows_of es)) (vehicle_rows_of es) → Rising es → AreAlike rows (seat_rows es)
+  index_alike rows is h k =
+      ap (filter (is_of k)) (is ∙ sym (put_append [] (update_rows_of es) (vehicle_rows_of es)) ∙ put_rising [] kinds (all_rise es h))
+      ∙ kinds_alike k
 
 -- a row, by what is equal to its parts
 pub row_is : (K : Kind) (k : EntityKey) (id : List ℕ) (t u v w : Option (List ℕ)) → id ≡ k.id → t ≡ u → v ≡ w →

@@ -7,6 +7,7 @@ ghost use Rattle.rule_core.specs.Answered.{Heads};
 ghost use Rattle.rule_core.specs.Pairs.{update_rows, vehicle_rows, trip_id_in, vehicle_id_in};
 ghost use Rattle.pairing_rules.specs.Rows.{pair_row};
 ghost use Rattle.judging.specs.Seats.{Rising, seat_values};
+ghost use Rattle.pairing_rules.specs.ByKind.{AreAlike};
 ghost use Rattle.judging.specs.Judged.{found_at_seats, put_rows, seat_rows, update_rows_of, vehicle_rows_of};
 
 use feed_values::{Entity, Text, TripDescriptor, TripUpdate, VehicleDescriptor, VehiclePosition};
@@ -149,11 +150,12 @@ fn add_vehicles(
     Ok(index)
 }
 
-/// The pairing rows of entities under their keys, as an index. With it the entities have the findings that they have with the
-/// rows in the order of their keys.
+/// The pairing rows of entities under their keys, as an index: of each kind those of the rows in the order of keys, and in their
+/// order. So the entities have the same findings with both.
 pub fn rows_of(alloc: Global, seats: &BTreeMap<EntityKey, &Entity>) -> Result<PairIndex, AllocError>
     requires { Rising (seat_values seats.now.entries) }
-    ensures { IfOk result (λ rows. (t : Option Tables) (heads : Heads) → found_at_seats t rows heads (seat_values seats.now.entries)
+    ensures alike { IfOk result (λ rows. AreAlike rows (seat_rows (seat_values seats.now.entries))) }
+    ensures found { IfOk result (λ rows. (t : Option Tables) (heads : Heads) → found_at_seats t rows heads (seat_values seats.now.entries)
         ≡ found_at_seats t (seat_rows (seat_values seats.now.entries)) heads (seat_values seats.now.entries)) }
 {
     let updates = add_updates(alloc, PairIndex::new(alloc), seats)?;

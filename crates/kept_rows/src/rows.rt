@@ -4,6 +4,7 @@ ghost use Rattle.feed_values.specs.Snapshot.{entity_of, entity_payloads};
 ghost use Rattle.timetable.specs.Timetables.{Tables};
 ghost use Rattle.rule_core.specs.Answered.{Heads};
 ghost use Rattle.rule_core.specs.declared.key.EntityKey.{EntityKey};
+ghost use Rattle.pairing_rules.specs.ByKind.{AreAlike};
 ghost use Rattle.judging.specs.Seats.{Rising};
 ghost use Rattle.judging.specs.Judged.{found_at_seats, put_rows, seat_rows};
 ghost use Rattle.kept_rows.specs.Places.{AreWithin, placed};
@@ -68,8 +69,8 @@ fn add_rows(
     Ok(index)
 }
 
-/// The pairing rows of the entities at these places of a kept snapshot, as an index. With it the entities have the findings that
-/// they have with the rows in the order of their keys.
+/// The pairing rows of the entities at these places of a kept snapshot, as an index: of each kind those of the rows in the order
+/// of keys, and in their order. So the entities have the same findings with both.
 pub fn rows_of(
     alloc: Global,
     kept: &Kept,
@@ -77,7 +78,8 @@ pub fn rows_of(
 ) -> Result<PairIndex, AllocError>
     requires within { AreWithin kept.now places.now.entries }
     requires rising { Rising (placed kept.now places.now.entries) }
-    ensures { IfOk result (λ rows. (t : Option Tables) (heads : Heads) → found_at_seats t rows heads (placed kept.now places.now.entries)
+    ensures alike { IfOk result (λ rows. AreAlike rows (seat_rows (placed kept.now places.now.entries))) }
+    ensures found { IfOk result (λ rows. (t : Option Tables) (heads : Heads) → found_at_seats t rows heads (placed kept.now places.now.entries)
         ≡ found_at_seats t (seat_rows (placed kept.now places.now.entries)) heads (placed kept.now places.now.entries)) }
 {
     let updates = add_rows(alloc, PairIndex::new(alloc), Kind::TripUpdate, kept, places)?;

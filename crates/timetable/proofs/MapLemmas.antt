@@ -1,8 +1,8 @@
 -- Entries by text, and the finite map that they make.
-use Rattle.std.proofs.Common.{◌≡◌, List, [], ◌∷◌, ◌++◌, Option, Some, None, String, Global, string_bytes, string_eq, cond, Bool, true, false, is_some, option_map, refl, sym, ap, subst, ◌∙◌, append_assoc}
+use Rattle.std.proofs.Common.{◌≡◌, ℕ, length, List, [], ◌∷◌, ◌++◌, Option, Some, None, String, Global, string_bytes, string_eq, cond, Bool, true, false, is_some, option_map, refl, sym, ap, subst, ◌∙◌, append_assoc}
 use Rattle.std.proofs.lemmas.Cmp.{nat_list_cmp_total}
 use Rattle.std.proofs.lemmas.Map.Text.{hash_map_updates_text, is_eq-slice_cmp}
-use Rattle.std.specs.FinMap.{IsAntisymmetric, get, insert, nat_cmp-IsAntisymmetric, slice_cmp-IsAntisymmetric}
+use Rattle.std.specs.FinMap.{IsAntisymmetric, empty, get, get-empty, insert, nat_cmp-IsAntisymmetric, slice_cmp-IsAntisymmetric}
 use Rattle.std.proofs.lemmas.Map.Keys.{IsDistinct-head, IsDistinct-tail}
 use Rattle.std.specs.List.{AllByRecursion, IsDistinct}
 use Rattle.std.specs.Map.{keys_of, lookup}
@@ -64,3 +64,16 @@ pub moved_over : {V S : Type 0} (m n : IndexMap (String Global) V S) (all rest :
 moved_over m n all rest k v distinct split is =
     let none = absent_before m.entries rest (k, v) (subst (λ es. IsDistinct string_eq (keys_of es)) (sym split) distinct) in
     ap (λ es. es ++ rest) (is ∙ insert_entry-new string_eq m k v none) ∙ append_assoc m.entries ((k, v) ∷ []) rest ∙ split
+
+-- a map with an entry isn't empty
+pub entry_there : {V : Type 0} (e : String Global × V) (es : List (String Global × V)) → table_of (e ∷ es) ≡ empty → ⊥
+entry_there e es h =
+    let q = string_bytes e.0 in
+    let found : get (table_of (e ∷ es)) q ≡ Some e.1 = sym (get_text (e ∷ es) q) ∙ ap (λ b. cond b (Some e.1) (lookup (has_text q) es)) (string_eq_equiv.refl e.0) in
+    let none : get (table_of (e ∷ es)) q ≡ None = ap (λ m. get m q) h ∙ get-empty text_cmp q in
+    let clash : Some e.1 ≡ None = sym found ∙ none in cc
+
+-- a map without entries only is empty
+pub entries_there : {V : Type 0} (es : List (String Global × V)) → (length es ≡ 0 → ⊥) → table_of es ≡ empty → ⊥
+entries_there [] some h = some refl
+entries_there (e ∷ es) some h = entry_there e es h

@@ -1,6 +1,6 @@
 //! Maps from ids to what stands under them.
 
-ghost use Rattle.std.specs.Prelude.{◌≡◌, false, true, IfOk, Some, None, if◌then◌else◌, is_some, option_copied};
+ghost use Rattle.std.specs.Prelude.{◌≢◌, ◌≡◌, false, true, IfOk, Some, None, if◌then◌else◌, is_some, option_copied};
 ghost use Rattle.std.specs.FinMap as map;
 ghost use Rattle.timetable.specs.Maps.{put_under, table_of};
 ghost use Rattle.timetable.specs.Numbers.{map_of};
@@ -73,7 +73,8 @@ impl<G: Drop> Grouped<G> {
 
     /// Whether there are none.
     pub fn is_empty(&self) -> bool
-        ensures { result ≡ true → self.now ≡ map.empty }
+        ensures none { result ≡ true → self.now ≡ map.empty }
+        ensures some { result ≡ false → self.now ≢ map.empty }
     {
         self.groups.is_empty()
     }

@@ -11,7 +11,8 @@
 //! and each file's is an item: `agency`, `stop`, `route`, `trip`, `visit`, `service_row`, `exception`,
 //! `frequency`; `grouped` holds rows by id, `exceptions`, `frequencies`, `stop_ids` and `numbered` what
 //! stands under it, `shared_ids` and `trips` trips while they are read, `late_times`, `trip_rows` and `visits`
-//! stop times while they are read, `trip_times` and `stop_times` from then on, with `optional_time` in each;
+//! stop times while they are read, `trip_times` and `stop_times` from then on, of each a `stop_time` with two
+//! times of the type `optional_time`;
 //! `table` reads a file and `folder` several; `twice`, `kinds` and `timetable` are the whole. `laws` says what
 //! the tables hold in words of their rows.
 #![tactic(auto)]

@@ -314,7 +314,8 @@ impl Timetable {
 
     /// Whether frequencies.txt has rows.
     pub fn has_frequencies(&self) -> bool
-        ensures { result ≡ false → (tables_in self.now).frequencies ≡ map.empty }
+        ensures none { result ≡ false → (tables_in self.now).frequencies ≡ map.empty }
+        ensures some { result ≡ true → (tables_in self.now).frequencies ≢ map.empty }
     {
         match &self.tables {
             Some(held) => !held.frequencies.is_empty(),

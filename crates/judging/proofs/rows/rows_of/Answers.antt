@@ -1,12 +1,13 @@
 use Rattle.std.proofs.Common.{ap, ◌∙◌}
 use Rattle.judging.specs.Seats.{seat_values}
 use Rattle.judging.specs.Judged.{put_rows, update_rows_of, vehicle_rows_of}
-use Rattle.judging.proofs.Rowed.{index_found}
+use Rattle.judging.proofs.Rowed.{index_alike, all_found}
 use Rattle.judging.proofs.rows.rows_of.Goals as goal
 
 pub returns : goal.returns
-returns c t heads =
+returns c =
     let es = seat_values c.args.seats.now.entries in
-    index_found es c.in_ok-rows.rows
+    let alike = index_alike es c.in_ok-rows.rows
     (c.in_ok-rows.ensures ∙ ap (λ u. put_rows u (vehicle_rows_of es)) (c.in_ok-updates.ensures ∙ ap (λ u. put_rows u (update_rows_of es)) c.new.ensures))
-    c.requires t heads
+    c.requires
+    in record { alike = alike; found = λ t heads. all_found es c.in_ok-rows.rows alike t heads es }

@@ -16,5 +16,5 @@ none_of false held h = refl
 pub returns-then-not-has_frequencies : goal.returns-then-not-has_frequencies
 returns-then-not-has_frequencies c =
     let trip = c.args.trip.now in
-    let none : get (tables_in c.args.table.now).frequencies trip ≡ None = rw (c.has_frequencies.ensures c.if-not-has_frequencies.true) (get-empty (slice_cmp nat_cmp) trip) in
+    let none : get (tables_in c.args.table.now).frequencies trip ≡ None = rw (c.has_frequencies.ensures.none c.if-not-has_frequencies.true) (get-empty (slice_cmp nat_cmp) trip) in
     none_of (trip_known (tables_in c.args.table.now) trip) (get (tables_in c.args.table.now).frequencies trip) none
