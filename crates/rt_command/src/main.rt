@@ -6,7 +6,7 @@
 
 ghost use Rattle.std.specs.Prelude.{◌≡◌};
 
-use rt_outside::{RealFiles, RealSink, Steps};
+use rt_outside::{RealFiles, RealSink, Steps, put_all};
 use rt_run::{Status, run};
 use std::alloc::AllocError;
 use std::env;
@@ -80,7 +80,10 @@ fn run_outside<D: Ledger, T: Ledger>(
 fn main(rt: HostRuntime) -> ExitCode {
     let status = match given_words(&rt) {
         Ok(words) => run_outside::<Brand, Brand>(&rt, &words, Blank::new(1), Blank::new(1)),
-        Err(_) => Status::Memory,
+        Err(_) => {
+            let _ = put_all(&mut RealSink::new(rt.stderr()), b"out of memory\n");
+            Status::Memory
+        }
     };
     ExitCode::from(status.number())
 }

@@ -8,6 +8,8 @@ use Rattle.rt_outside.specs.Store.{Contents}
 use Rattle.rt_outside.specs.Read.{TellsWhole}
 use Rattle.rt_outside.specs.declared.read_end.ReadEnd.TheVariants as end
 use Rattle.feed_values.specs.Accepted.{snapshot_limit}
+use Rattle.feed_values.specs.Schema.{Value}
+use Rattle.feed_values.specs.Messages.{feed_message}
 use Rattle.feed_values.specs.Snapshot.{entities_of, entity_of, entity_payloads, header_of}
 use Rattle.feed_values.proofs.SnapshotFields.{snapshot_is_its_fields}
 use Rattle.feed_codec.specs.declared.refusal.Refusal.{Refusal}
@@ -21,10 +23,9 @@ use Rattle.judging.proofs.OneSnapshot.{one_snapshot}
 use Rattle.rt_run.specs.Findings.{finding_text, has_error}
 use Rattle.rt_run.specs.Found.{snapshot_in, decoded}
 use Rattle.rt_run.specs.Rows.{bytes_in, unless_faulty}
-use Rattle.rt_run.specs.declared.wanted.Wanted.{Wanted}
 use Rattle.rt_run.proofs.Chosen.{each}
-use Rattle.rt_run.specs.Report.{Report, found, snapshot_report, judged_report}
-use Rattle.rt_run.specs.Judged.{accepts, accepted_report, accepted_text, first_taken, found_report, listed_report, snapshot_findings}
+use Rattle.rt_run.specs.Report.{Report, found, snapshot_report, judged_report, shown_report}
+use Rattle.rt_run.specs.Judged.{accepted_report, accepted_text, first_taken, found_report, listed_report, snapshot_findings, value_report}
 
 -- what an accepted snapshot's bytes give is what it says gives
 feed_fits : 0 < feed_limit
@@ -53,13 +54,13 @@ module _ (t : Option Tables) (moment : ℕ) (bytes : List ℕ) where
   pub accepted_status_is : (error : Bool) → error ≡ has_error listed → found error ≡ (accepted_report t moment bytes).status
   accepted_status_is error e = ap found e ∙ sym (ap (λ r. r.status) accepted_is)
 
-judged_is : (wanted : Wanted) (bytes : List ℕ) (o : Option Refusal) → judged_report (accepts wanted) bytes o ≡ found_report wanted (unless_faulty bytes o)
-judged_is wanted bytes (Some refusal) = refl
-judged_is wanted bytes None = refl
+judged_is : (accepts : List ℕ → Report) (bytes : List ℕ) (o : Option Refusal) → judged_report accepts bytes o ≡ found_report accepts (unless_faulty bytes o)
+judged_is accepts bytes (Some refusal) = refl
+judged_is accepts bytes None = refl
 
-report_is : (wanted : Wanted) (held : Option (List ℕ)) → snapshot_report (accepts wanted) held ≡ found_report wanted (bytes_in held)
-report_is wanted None = refl
-report_is wanted (Some bytes) = judged_is wanted bytes (refusal bytes)
+report_is : (accepts : List ℕ → Report) (held : Option (List ℕ)) → snapshot_report accepts held ≡ found_report accepts (bytes_in held)
+report_is accepts None = refl
+report_is accepts (Some bytes) = judged_is accepts bytes (refusal bytes)
 
 past : (n : ℕ) → snapshot_limit < n → nat_lt snapshot_limit n ≡ true
 past n l = grind (arith, nat_tests)
@@ -79,9 +80,25 @@ large_snapshot None file l = tt
 large_snapshot (Some held) file l = large (get held file) l
 
 -- what was found in a file gives its report
-module _ (told : Option Contents) (wanted : Wanted) (file : List ℕ) (found : Result (List ℕ) Refusal) (is : IfSome told (λ held. bytes_in (get held file) ≡ found)) where
+module _ (told : Option Contents) (accepts : List ℕ → Report) (file : List ℕ) (found : Result (List ℕ) Refusal) (is : IfSome told (λ held. bytes_in (get held file) ≡ found)) where
   abbrev report_in : Contents → Report
-  report_in held = snapshot_report (accepts wanted) (get held file)
+  report_in held = snapshot_report accepts (get held file)
 
-  pub report_said : (P : Report → Type 0) → P (found_report wanted found) → IfSome told (λ held. P (report_in held))
-  report_said P p = each told _ (λ held. P (report_in held)) (λ held e. subst P (sym (report_is wanted (get held file) ∙ ap (found_report wanted) e)) p) is
+  pub report_said : (P : Report → Type 0) → P (found_report accepts found) → IfSome told (λ held. P (report_in held))
+  report_said P p = each told _ (λ held. P (report_in held)) (λ held e. subst P (sym (report_is accepts (get held file) ∙ ap (found_report accepts) e)) p) is
+
+-- the report of `show`, by what the file says
+shown_of : (bytes : List ℕ) (o : Option Refusal) → judged_report shown_report bytes o ≡ value_report (decoded bytes o)
+shown_of bytes (Some refusal) = refl
+shown_of bytes None = refl
+
+shown_is : (held : Option (List ℕ)) → snapshot_report shown_report held ≡ value_report (snapshot_in held)
+shown_is None = refl
+shown_is (Some bytes) = shown_of bytes (refusal bytes)
+
+module _ (told : Option Contents) (file : List ℕ) (found : Result (Value feed_message) Refusal) (is : IfSome told (λ held. snapshot_in (get held file) ≡ found)) where
+  abbrev shown_in : Contents → Report
+  shown_in held = snapshot_report shown_report (get held file)
+
+  pub shown_said : (P : Report → Type 0) → P (value_report found) → IfSome told (λ held. P (shown_in held))
+  shown_said P p = each told _ (λ held. P (shown_in held)) (λ held e. subst P (sym (shown_is (get held file) ∙ ap value_report e)) p) is

@@ -9,17 +9,14 @@ use Rattle.feed_codec.specs.declared.refusal.Refusal.{Refusal}
 use Rattle.serde_json.specs.Written.{compact_text}
 use Rattle.feed_json.specs.Form.{form}
 use Rattle.timetable.specs.Timetables.{Tables}
-use Rattle.rule_core.specs.Answered.{tables_of}
 use Rattle.rule_core.specs.Findings.{findings}
 use Rattle.rule_core.specs.Found.{Found}
 use Rattle.rule_core.specs.History.{Snapshot}
 use Rattle.rt_report.specs.Lines.{line_of, accepted}
 use Rattle.rt_run.specs.declared.status.Status.{Status}
 use Rattle.rt_run.specs.declared.status.Status.TheVariants as answer
-use Rattle.rt_run.specs.declared.wanted.Wanted.{Wanted}
-use Rattle.rt_run.specs.declared.wanted.Wanted.TheVariants.{Findings, Form}
 use Rattle.rt_run.specs.Findings.{finding_text, has_error}
-use Rattle.rt_run.specs.Report.{Report, found, refused_report, shown_report}
+use Rattle.rt_run.specs.Report.{Report, found, refused_report}
 
 -- the answer is the report's, and all of its text was appended to what was written before
 abbrev pub IsPut : Report → Option (List ℕ) → Option (List ℕ) → Status → Type 0
@@ -45,16 +42,16 @@ snapshot_findings t moment bytes = findings t (first_taken moment bytes ∷ [])
 abbrev pub accepted_report : Option Tables → ℕ → List ℕ → Report
 accepted_report t moment bytes = listed_report moment (length (entities_of bytes)) (snapshot_findings t moment bytes)
 
--- what a command makes of an accepted snapshot, by what it wants
-abbrev pub accepts : Wanted → List ℕ → Report
-accepts (Findings moment timetable) bytes = accepted_report (tables_of timetable.now) moment bytes
-accepts Form bytes = shown_report bytes
-
--- of the bytes of a snapshot that was accepted, or why it was refused
-abbrev pub found_report : Wanted → Result (List ℕ) Refusal → Report
-found_report wanted (Ok bytes) = accepts wanted bytes
-found_report wanted (Err refusal) = refused_report refusal
+-- of the bytes of a snapshot that was accepted, by what is made of it, or why it was refused
+abbrev pub found_report : (List ℕ → Report) → Result (List ℕ) Refusal → Report
+found_report accepts (Ok bytes) = accepts bytes
+found_report accepts (Err refusal) = refused_report refusal
 
 -- ---- of what a snapshot says
 abbrev pub form_report : Value feed_message → Report
 form_report v = record { text = compact_text (form feed_message v) ++ 10 ∷ []; errors = []; status = answer.Clean }
+
+-- what `show` makes of what a snapshot says, or why it was refused
+abbrev pub value_report : Result (Value feed_message) Refusal → Report
+value_report (Ok v) = form_report v
+value_report (Err refusal) = refused_report refusal

@@ -11,7 +11,6 @@ use crate::feeds::check_feeds;
 use crate::refusal::say_load_fault;
 use crate::report_file::report_file;
 use crate::status::Status;
-use crate::wanted::Wanted;
 use feed_values::{Items, Text};
 use rt_outside::{Files, Sink, Steps};
 use std::alloc::Global;
@@ -104,6 +103,13 @@ fn check_first<F: Files, S: Sink, E: Sink>(
         (outside (F.state files.old) (S.state out.old) (E.state err.old))
         (outside (F.state files.new) (S.state out.new) (E.state err.new)) result }
 {
-    let wanted = Wanted::Findings { moment, timetable };
-    report_file(alloc, wanted, names.as_slice()[0].as_str(), files, out, err)
+    report_file(
+        alloc,
+        moment,
+        timetable,
+        names.as_slice()[0].as_str(),
+        files,
+        out,
+        err,
+    )
 }

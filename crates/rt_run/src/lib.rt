@@ -7,19 +7,19 @@
 //!
 //! From the bottom up:
 //! - `status` and `fault` are how a run ends, and why it stops before its end.
-//! - `command`, `options` and `request` are what the words ask for, and `words` reads them.
+//! - `command`, `options`, `zone_word` and `request` are what the words ask for, and `words` reads them.
 //! - `lines` has the lines of findings, `sending` writes those that fill a piece, and `findings` sends those of a snapshot by
 //!   itself, by all rules, one entity after the other.
-//! - `snapshot_file` reads a snapshot, and `judge` writes the report on it, by what is `wanted` of it: its findings or its JSON
-//!   form.
-//! - `json_input` reads the snapshot that a JSON file says, and `input_fault` is why it isn't had.
+//! - `snapshot_file` reads a snapshot, and `judge` writes the report of `check` on it.
+//! - `json_input` reads the snapshot that a JSON file says, and `input_fault` is why it isn't had; `zone_input` reads the zone that
+//!   words name, and `zone_input_fault` is why it isn't had.
 //! - `say` writes to the error stream, `refusal` why a timetable isn't loaded, and `list_fault` why a list isn't read.
 //! - `row` puts the snapshot of one row into the engine that follows feeds, and `rows` those of all rows; `telling` is what is
 //!   told of each.
 //! - `standing` writes all findings that stand, and `feeds` carries out `check` of several files.
 //! - `sums` adds up what snapshots change, and `summing` takes those of the trial one after the other.
-//! - `report_file` writes the report on one file, which is all of `show`. `check`, `follow`, `predict`,
-//!   `encode` and `trial` carry out their commands, and `run` the request of the words.
+//! - `report_file` writes the report of `check` on one file. `check`, `follow`, `prediction` (for `predict`), `show`, `encode` and
+//!   `trial` carry out their commands, and `running` the request of the words.
 #![tactic(auto)]
 
 mod check;
@@ -44,6 +44,7 @@ mod rows;
 mod running;
 mod say;
 mod sending;
+mod show;
 mod snapshot_file;
 mod standing;
 mod status;
@@ -51,7 +52,6 @@ mod summing;
 mod sums;
 mod telling;
 mod trial;
-mod wanted;
 mod words;
 mod zone_input;
 mod zone_input_fault;

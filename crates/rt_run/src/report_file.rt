@@ -1,12 +1,13 @@
-//! The report on the snapshot in one file: what `check` and `show` have in common.
+//! The report of `check` on the snapshot in one file.
 ghost use Rattle.std.specs.Prelude.{◌≡◌, ◌∷◌, [], IfSome, IfOk, IsErrOf, Contains};
 ghost use Rattle.std.specs.FinMap.{get};
 ghost use Rattle.std.specs.Io.KnownBytes.{append_known};
 ghost use Rattle.rt_outside.specs.Causes.{Rose};
 ghost use Rattle.rt_outside.specs.Sink.{AppendsPrefix};
 ghost use Rattle.rt_outside.specs.Store.{contents_told};
+ghost use Rattle.rule_core.specs.Answered.{tables_of};
 ghost use Rattle.rt_run.specs.Report.{snapshot_report, file_report};
-ghost use Rattle.rt_run.specs.Judged.{accepts};
+ghost use Rattle.rt_run.specs.Judged.{accepted_report};
 ghost use Rattle.rt_run.specs.Carried.{CarriesOut};
 ghost use Rattle.rt_run.specs.Outside.{outside};
 ghost use Rattle.rt_run.specs.Faults.{IsCarriedOut};
@@ -16,24 +17,25 @@ use crate::judge::put_report;
 use crate::say::say_fault;
 use crate::snapshot_file::read_kept;
 use crate::status::Status;
-use crate::wanted::Wanted;
 use rt_outside::{Files, Sink};
 use std::alloc::Global;
+use timetable::Timetable;
 
-/// Writes the report on the snapshot in this file, by what is wanted of it where it is accepted.
+/// Writes the report on the snapshot in this file, judged with this timetable at this moment, as POSIX time in seconds.
 pub fn report_file<F: Files, S: Sink, E: Sink>(
     alloc: Global,
-    wanted: Wanted<'_>,
+    moment: u64,
+    timetable: &Timetable,
     file: &str,
     files: &mut F,
     out: &mut S,
     err: &mut E,
 ) -> Status
-    ensures { CarriesOut (file_report (accepts wanted.entry) file.now) (Contains (file.now ∷ []))
+    ensures { CarriesOut (file_report (accepted_report (tables_of timetable.now) moment) file.now) (Contains (file.now ∷ []))
         (outside (F.state files.old) (S.state out.old) (E.state err.old))
         (outside (F.state files.new) (S.state out.new) (E.state err.new)) result }
 {
-    match write_report(alloc, wanted, file, files, out) {
+    match write_report(alloc, moment, timetable, file, files, out) {
         Ok(status) => status,
         Err(fault) => say_fault(err, fault, file),
     }
@@ -42,16 +44,17 @@ pub fn report_file<F: Files, S: Sink, E: Sink>(
 // Writes the report on one file.
 fn write_report<F: Files, S: Sink>(
     alloc: Global,
-    wanted: Wanted<'_>,
+    moment: u64,
+    timetable: &Timetable,
     file: &str,
     files: &mut F,
     out: &mut S,
 ) -> Result<Status, Fault>
     ensures text { IfSome (contents_told (F.state files.old).told) (λ held.
         AppendsPrefix (S.state out.old).written (S.state out.new).written
-        (snapshot_report (accepts wanted.entry) (get held file.now)).text) }
+        (snapshot_report (accepted_report (tables_of timetable.now) moment) (get held file.now)).text) }
     ensures whole { IfSome (contents_told (F.state files.old).told) (λ held. IfOk result (λ status.
-        let report = snapshot_report (accepts wanted.entry) (get held file.now) in (status ≡ report.status)
+        let report = snapshot_report (accepted_report (tables_of timetable.now) moment) (get held file.now) in (status ≡ report.status)
         × ((S.state out.new).written ≡ append_known (S.state out.old).written report.text))) }
     ensures carried_out { IfOk result IsCarriedOut }
     ensures asked { IfSome (F.state files.new).asked (λ last. last ≡ file.now) }
@@ -59,5 +62,5 @@ fn write_report<F: Files, S: Sink>(
     ensures write { IsErrOf result Fault.Write → Rose (S.state out.old).faults (S.state out.new).faults }
 {
     let found = read_kept(alloc, files, file)?;
-    put_report(alloc, wanted, found, out)
+    put_report(alloc, moment, timetable, found, out)
 }

@@ -12,12 +12,11 @@ use crate::check::check;
 use crate::encode::encode;
 use crate::follow::follow;
 use crate::prediction::predict;
-use crate::report_file::report_file;
 use crate::request::Request;
 use crate::say::{say, say_memory};
+use crate::show::show;
 use crate::status::Status;
 use crate::trial::trial;
-use crate::wanted::Wanted;
 use crate::words::words_of;
 use rt_outside::{Files, Sink, Steps};
 use std::alloc::Global;
@@ -139,9 +138,7 @@ fn carry_out<F: Files, S: Sink, E: Sink, D: Ledger, T: Ledger>(
                 err,
             )
         }
-        Request::Show { file } => {
-            report_file(alloc, Wanted::Form, file.as_str(), files, out, err)
-        }
+        Request::Show { file } => show(alloc, file.as_str(), files, out, err),
         Request::Encode { file } => encode(alloc, file.as_str(), files, out, err),
         Request::Trial { seed } => trial(alloc, *seed, out, err, decodes, tests),
     }

@@ -26,7 +26,7 @@ returns-clause-sent g c =
     (λ sent. sends_behind before new c.args.lines.now c.judge_header.new.lines (header_found t (seat_rows es) heads 0) (found_at_seats t (seat_rows es) heads es)
     (subst (λ h. AddsLines c.args.lines.now c.judge_header.new.lines (header_found t (seat_rows es) (first_heads h c.args.moment) 0)) said (c.in_ok-judge_header.ensures t (seat_rows es))) c.send_entities.new.lines
     (subst (Sends before new c.judge_header.new.lines c.send_entities.new.lines)
-    (c.in_ok-rows.ensures t (first_heads (feed_header_value c.in_ok-header.header) c.args.moment)
+    (c.in_ok-rows.ensures.found t (first_heads (feed_header_value c.in_ok-header.header) c.args.moment)
     ∙ ap (λ s. found_at_seats t (seat_rows s) (first_heads (feed_header_value c.in_ok-header.header) c.args.moment) s) c.in_ok-places.ensures.seats_are
     ∙ ap (λ h. found_at_seats t (seat_rows es) (first_heads h c.args.moment) es) said) sent))
     c.send_entities.ensures.sent
@@ -43,7 +43,7 @@ returns-clause-part g c =
     (λ part. part_behind before new c.args.lines.now c.judge_header.new.lines (header_found t (seat_rows es) heads 0) (found_at_seats t (seat_rows es) heads es)
     (subst (λ h. AddsLines c.args.lines.now c.judge_header.new.lines (header_found t (seat_rows es) (first_heads h c.args.moment) 0)) said (c.in_ok-judge_header.ensures t (seat_rows es)))
     (subst (SendsPart before new c.judge_header.new.lines)
-    (c.in_ok-rows.ensures t (first_heads (feed_header_value c.in_ok-header.header) c.args.moment)
+    (c.in_ok-rows.ensures.found t (first_heads (feed_header_value c.in_ok-header.header) c.args.moment)
     ∙ ap (λ s. found_at_seats t (seat_rows s) (first_heads (feed_header_value c.in_ok-header.header) c.args.moment) s) c.in_ok-places.ensures.seats_are
     ∙ ap (λ h. found_at_seats t (seat_rows es) (first_heads h c.args.moment) es) said) part))
     c.send_entities.ensures.part

@@ -19,7 +19,7 @@ returns-in-Predict-clause-carried g c =
 
 pub returns-in-Show-clause-carried : goal.returns-in-Show-clause-carried
 returns-in-Show-clause-carried g c =
-    rw c.in-Show.is (one_report _ _ _ _ c.report_file.result (carried_name (file_report shown_report) _ _ _ _ c.report_file.result c.as_str-in-Show.ensures c.report_file.ensures))
+    rw c.in-Show.is (one_report _ _ _ _ c.show.result (carried_name (file_report shown_report) _ _ _ _ c.show.result c.as_str-in-Show.ensures c.show.ensures))
 
 pub returns-in-Encode-clause-carried : goal.returns-in-Encode-clause-carried
 returns-in-Encode-clause-carried g c = rw c.in-Encode.is (one_report _ _ _ _ c.encode.result (carried_name encode_report _ _ _ _ c.encode.result c.as_str-in-Encode.ensures c.encode.ensures))
