@@ -4,9 +4,10 @@
     python3 bench/gate.py [CRATE..]
 
 Runs `rt ci` from nothing, over all crates or, where the kit's `rt ci` takes names, over these, and prints the processor minutes
-of each crate's proofs, of its tests and of its must-fail edits, then the twenty slowest edits. The last line has the minutes on the clock, those of all processors, and
-how rt ci ended. What rt ci prints goes to standard error. Which function of a crate is slow is told by `rt check` there, which
-says each as it is checked.
+of each crate's proof, of its first must-fail edit (which proves the crate again), of its further ones and of its tests, then the
+twenty slowest edits. The last line has the minutes on the clock, those of all processors, how many minutes the longest chain of crates takes to
+prove, one after the other, and how rt ci ended. What rt ci prints goes to standard error. The table of docs/gate.md is made of this
+one. Which part of a crate is slow is told by bench/modules.py.
 """
 
 import collections
@@ -85,6 +86,7 @@ class Meter(threading.Thread):
     def __init__(self, root):
         super().__init__(daemon=True)
         self.root, self.seconds, self.works, self.names, self.ended = root, {}, {}, {}, False
+        self.folders = collections.defaultdict(list)
 
     def run(self):
         while not self.ended:
@@ -97,6 +99,7 @@ class Meter(threading.Thread):
                     work = self.works[number]
                     if work and work[2] and work[2] not in self.names:
                         self.names[work[2]] = edit_in(work[0], work[2])
+                        self.folders[work[0]].append(work[2])
             time.sleep(0.4)
 
 
@@ -108,6 +111,24 @@ def gate():
     if sys.argv[1:]:
         sys.exit("gate.py: this kit's rt ci takes no names of crates")
     return ["rt", "ci"]
+
+
+def longest_chain(seconds):
+    """The seconds of the chain of crates that takes longest to prove, and its crates, lowest first."""
+    below = {}
+    for line in read(f"{TOP}/crates.txt").decode().split("\n"):
+        name, found, names = line.partition("#")[0].partition(":")
+        if found:
+            below[name.split()[0]] = names.split()
+    found = {}
+
+    def chain(crate):
+        if crate not in found:
+            found[crate] = max((chain(it) for it in below[crate] if it in below), default=(0.0, []))
+            found[crate] = found[crate][0] + seconds.get(crate, 0.0), [*found[crate][1], crate]
+        return found[crate]
+
+    return max(map(chain, below), default=(0.0, []))
 
 
 def main():
@@ -128,19 +149,25 @@ def main():
         if work is None:
             other += seconds
             continue
-        by_crate[work[0]][work[1]] += seconds
+        is_first = meter.folders[work[0]][:1] == [work[2]]
+        by_crate[work[0]]["first edit" if is_first else work[1]] += seconds
         if work[2]:
-            by_edit[meter.names.get(work[2]) or f"{work[0]}/?"] += seconds
-    kinds = ("proofs", "tests", "edits")
-    print(f"{'processor minutes':24}" + "".join(f"{kind:>9}" for kind in kinds))
+            by_edit[meter.names.get(work[2]) or f"{work[0]}, unedited"] += seconds
+    kinds = ("proofs", "first edit", "edits", "tests")
+    print(f"{'processor minutes':24}" + "".join(f"{kind:>12}" for kind in kinds))
     for crate in sorted(by_crate):
-        print(f"{crate:24}" + "".join(f"{by_crate[crate][kind] / 60:9.1f}" for kind in kinds))
+        print(f"{crate:24}" + "".join(f"{by_crate[crate][kind] / 60:12.1f}" for kind in kinds))
     sums = [sum(row[kind] for row in by_crate.values()) for kind in kinds]
-    print(f"{'all crates':24}" + "".join(f"{seconds / 60:9.1f}" for seconds in sums))
+    print(f"{'all crates':24}" + "".join(f"{seconds / 60:12.1f}" for seconds in sums))
     print("\nslowest edits, in processor seconds")
     for name, seconds in by_edit.most_common(20):
         print(f"{seconds:7.0f} {name}")
-    print(f"\n{(time.monotonic() - begin) / 60:.1f} minutes, {(sum(sums) + other) / 60:.1f} of all processors; {closing}")
+    chain, names = longest_chain({crate: row["proofs"] for crate, row in by_crate.items()})
+    print(f"\nthe longest chain: {', '.join(names)}")
+    print(
+        f"{(time.monotonic() - begin) / 60:.1f} minutes, {(sum(sums) + other) / 60:.1f} of all processors,"
+        f" {chain / 60:.1f} along the longest chain; {closing}"
+    )
     return status
 
 

@@ -1,9 +1,10 @@
 #!/usr/bin/env python3
 """Reads snapshots that no writer of canonical bytes makes, and writes them again, with protobuf's own library in C++.
 
-    apt-get install protobuf-compiler python3-protobuf; /usr/bin/python3 vectors/rewrite.py
+    apt-get install protobuf-compiler python3-protobuf
+    /usr/bin/python3 vectors/rewrite.py > crates/feed_cases/data/rewrites.cases
 
-It prints the rows of the table in crates/feed_tests/src/rewrites.rt.
+It prints them as cases: each snapshot as it is read, and as it is written, which is written again as it came.
 """
 import pathlib, subprocess, tempfile
 from google.protobuf import descriptor_pb2, descriptor_pool, message_factory
@@ -44,11 +45,31 @@ def kind():
     return message_factory.MessageFactory(pool).GetPrototype(pool.FindMessageTypeByName("realtime.FeedMessage"))
 
 
-def row(data):
-    return "&[%s]" % ", ".join("0x%02X" % b for b in data)
+HEAD = """\
+# Snapshots that aren't in canonical bytes, and how another implementation writes them again: protobuf's own library in C++.
+# `/usr/bin/python3 vectors/rewrite.py` prints this text.
+"""
+
+CASE = """
+== {name}
+written
++ {source}
+=+ {again}
+written
++ {again}
+=+ {again}
+"""
 
 
-message = kind()
-for name, source in ROWS:
+def case(message, name, source):
     again = message.FromString(source).SerializeToString(deterministic=True)
-    print('    ("%s", %s, %s),' % (name, row(source), row(again)))
+    return CASE.format(name=name, source=source.hex(), again=again.hex())
+
+
+def main():
+    message = kind()
+    print(HEAD + "".join(case(message, name, source) for name, source in ROWS), end="")
+
+
+if __name__ == "__main__":
+    main()

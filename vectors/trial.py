@@ -5,7 +5,7 @@
 
 Each snapshot is written as text and encoded by `protoc --encode`, fields in the order of their numbers. Printed are, for
 the five files and then the 40 snapshots, how many bytes they have and their Adler-32; the rows for N = 7 stand in
-crates/trial_feed/src/tests.rt. With --write FOLDER the files and the snapshots are written too, with a list for
+crates/run_cases/data/trial.cases. With --write FOLDER the files and the snapshots are written too, with a list for
 `rt_command follow --timetable trial --list list.txt`, to be run in that folder.
 """
 import argparse, pathlib, subprocess, zlib

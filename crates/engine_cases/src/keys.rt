@@ -1,0 +1,32 @@
+//! Keys of entities in text.
+
+use feed_values::{Items, Text};
+use rule_core::EntityKey;
+use std::alloc::{AllocError, Global};
+
+/// A text of its own.
+pub fn text_of(alloc: Global, text: &str) -> Result<Text, AllocError> {
+    let mut owned = Text::new(alloc);
+    owned.push(text)?;
+    Ok(owned)
+}
+
+/// A key as `FEED/ID/OCCURRENCE`.
+pub fn key_text(alloc: Global, key: &EntityKey) -> Result<String, AllocError> {
+    format!(in alloc; "{}/{}/{}", key.feed, key.id.as_str(), key.occurrence)
+}
+
+/// Keys with blanks between them, or `none`.
+pub fn keys_text(alloc: Global, keys: &Items<EntityKey>) -> Result<String, AllocError> {
+    let mut text = String::new(alloc);
+    for key in keys.as_slice() {
+        if !text.is_empty() {
+            text.push_str(" ")?;
+        }
+        text.push_str(key_text(alloc, key)?.as_str())?;
+    }
+    if text.is_empty() {
+        text.push_str("none")?;
+    }
+    Ok(text)
+}

@@ -1,0 +1,4 @@
+use Rattle.timetable_cases.proofs.writing.answer.Given as goal
+
+abbrev pub ghosts-take_two_steps : goal.ghosts-take_two_steps
+ghosts-take_two_steps a = record { name = a.blank.name; parts = a.blank.parts }
