@@ -16,6 +16,6 @@ done
 
 python3 viewer/rules.py --check && echo "the page's texts: as docs/rules.md and docs/report.md have them" || rc=1
 python3 viewer/check_page.py "$@" || rc=1
-mandoc -Tlint docs/rt_command.1 && echo "the manual: mandoc has nothing to say" || rc=1
+mandoc -Tlint -W warning docs/rt_command.1 && echo "the manual: mandoc has nothing to say" || rc=1
 python3 completions/check.py || rc=1
 exit $rc

@@ -364,6 +364,19 @@ def pictures(browser, folder, kinds):
                 browser.picture("%s/%s-%s-%d-%s.png" % (folder, name, tab, width, theme), width, height, theme)
 
 
+def check_other_files(browser):
+    """A file that is no report is told by what it is, and what was shown stays."""
+    for data, what in [(b"\n\x0d\n\x032.0", "a snapshot of a feed"), (b"<!DOCTYPE html><title>", "a web page"), (b'{"header":{}}', "the JSON of show"), (b'{"a": 1}', "protobuf's own JSON"), (b"\x1f\x8b\x08", "gzip")]:
+        browser.ask("""(() => { const data = new DataTransfer(); data.items.add(new File([new Uint8Array(%s)], 'other'));
+            document.body.dispatchEvent(new DragEvent('drop', { dataTransfer: data, bubbles: true, cancelable: true })); })()""" % json.dumps(list(data)))
+        told, until = "", time.time() + 5
+        while "looks like" not in told or what not in told:
+            told = text(browser, "#told")
+            if time.time() > until:
+                break
+        expect("a dropped %s" % what, "looks like %s." % what in told, True)
+
+
 def main():
     follow, standing = reports.followed()
     kinds = {"accepted": reports.only_accepted(), "refused": reports.only_refused(), "levels": reports.all_levels(), "follow": follow,
@@ -393,6 +406,7 @@ def main():
         load(browser, kinds["far"], "#view=time")
         expect("great moments have a plot", browser.ask("document.querySelectorAll('#time svg path').length"), 2)
         check_drop(browser, kinds["levels"], said["levels"])
+        check_other_files(browser)
         check_many(browser, kinds["many"], said["many"])
         expect("no fault, no breach of the policy, nothing fetched", browser.complaints(), [])
         check_hostile(browser, kinds["hostile"], said["hostile"])

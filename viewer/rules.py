@@ -1,10 +1,10 @@
 #!/usr/bin/env python3
-"""Writes into report.html what is said elsewhere: the texts of rules and refusals, and the hashes of its style and script.
+"""Writes into report.html what is said elsewhere: the texts of rules, refusals and wrong files, and the hashes of its style and script.
 
     python3 viewer/rules.py            # writes them
     python3 viewer/rules.py --check    # status 1 where the page isn't as this would write it
 
-The rules come from the tables of docs/rules.md, the refusals from the one of docs/report.md. The page's policy lets exactly this
+The rules come from the tables of docs/rules.md, the refusals and what else a file may be from those of docs/report.md. The page's policy lets exactly this
 style and this script in, so after each change of the page this is run again.
 """
 import base64, hashlib, json, pathlib, re, sys
@@ -43,6 +43,17 @@ def reasons():
                 yield {"reason": stem + name if name.startswith("(") else name, "what": what, "where": where, "look": look}
 
 
+def kinds():
+    """What a file may be in place of a report: its first bytes in hex digits, the longest first, and what to do."""
+    found = []
+    for heading, (what, first, _, _, do) in table_rows((DOCS / "report.md").read_text(), 5):
+        if heading == "What was fetched" and what != "What it is" and not what.startswith("---"):
+            texts = [it.encode().hex() for it in re.findall("`([^`]+)`", first)]
+            digits = [it.replace(" ", "") for it in re.findall(r"\b(?:[0-9a-f]{2}\b ?)+", re.sub("`[^`]*`", "", first)) if it.strip()]
+            found += [{"what": what, "begins": it, "do": do} for it in texts + digits]
+    return sorted(found, key=lambda row: (-len(row["begins"]), row["begins"]))
+
+
 def data_block(name, rows):
     lines = ",\n".join(json.dumps(row, ensure_ascii=False).replace("<", "\\u003c") for row in rows)
     return '<script type="application/json" id="%s">[\n%s\n]</script>\n' % (name, lines)
@@ -55,7 +66,7 @@ def hash_of(text):
 def written(page):
     front, _, rest = page.partition(BEGIN)
     _, _, back = rest.partition(END)
-    page = front + BEGIN + data_block("rules", rules()) + data_block("reasons", reasons()) + END + back
+    page = front + BEGIN + data_block("rules", rules()) + data_block("reasons", reasons()) + data_block("kinds", kinds()) + END + back
     style = hash_of(re.search("<style>(.*?)</style>", page, re.S)[1])
     script = hash_of(re.search("<script>(.*?)</script>", page, re.S)[1])
     page = re.sub("style-src [^;]*;", "style-src %s;" % style, page, count=1)
