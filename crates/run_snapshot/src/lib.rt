@@ -10,8 +10,8 @@
 #![tactic(auto)]
 
 mod findings;
-mod report;
 mod in_file;
+mod report;
 mod sending;
 
 pub use in_file::report_file;

@@ -7,8 +7,8 @@
 //! - `command`: the command, carried out
 #![tactic(auto)]
 
+mod command;
 mod summing;
 mod sums;
-mod command;
 
 pub use command::trial;
