@@ -8,9 +8,9 @@ use Rattle.rt_outside.specs.Store.{Contents, FilesState, contents_told}
 use Rattle.rt_outside.specs.Sink.{AppendsPrefix, SinkState}
 use Rattle.rt_outside.proofs.Appends.{append_known-nil, AppendsPrefix-nothing}
 use Rattle.timetable.specs.Folders.{path}
-use Rattle.timetable.specs.declared.fault.LoadFault.{LoadFault}
-use Rattle.timetable.specs.declared.fault.LoadFault.TheVariants as load
-use Rattle.timetable.specs.declared.file.File.{File}
+use Rattle.timetable.specs.declared.LoadFault.{LoadFault}
+use Rattle.timetable.specs.declared.LoadFault.TheVariants as load
+use Rattle.timetable.specs.declared.File.{File}
 use Rattle.rt_run.specs.declared.fault.Fault.{Fault}
 use Rattle.rt_run.specs.declared.fault.Fault.TheVariants as fault
 use Rattle.rt_run.specs.declared.status.Status.{Status}

@@ -4,7 +4,7 @@ use Rattle.std.specs.declared.option.Option.{Option}
 use Rattle.rt_outside.specs.Causes.{Rose}
 use Rattle.rt_outside.specs.Store.{Contents}
 use Rattle.timetable.specs.Timetables.{Tables, tables_of}
-use Rattle.timetable.specs.declared.fault.LoadFault.{LoadFault}
+use Rattle.timetable.specs.declared.LoadFault.{LoadFault}
 use Rattle.rt_run.specs.Inputs.{refusal_of, refusal_text, timetable_refusal, accepted_tables, timetable_of}
 use Rattle.rt_run.specs.Report.{Report, unless_refused, refused_input, with_timetable}
 

@@ -8,7 +8,7 @@ use Rattle.std.proofs.lemmas.List.Sums.{sum_by_push}
 use Rattle.rt_outside.specs.Causes.{Rose}
 use Rattle.rt_outside.specs.Store.{Contents}
 use Rattle.timetable.specs.Timetables.{Tables, tables_of}
-use Rattle.timetable.specs.declared.fault.LoadFault.{LoadFault}
+use Rattle.timetable.specs.declared.LoadFault.{LoadFault}
 use Rattle.rule_core.specs.Changed.{with}
 use Rattle.rule_core.specs.History.{Snapshot}
 use Rattle.engine_laws.specs.Computed.{delta_after, standings}

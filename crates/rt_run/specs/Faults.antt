@@ -23,9 +23,9 @@ use Rattle.rt_run.specs.JsonInputs.{input_text}
 use Rattle.rt_run.specs.Report.{usage_text}
 use Rattle.rt_run.specs.Zones.{IsZoneFile, bad_zone_text}
 use Rattle.timetable.specs.Folders.{path}
-use Rattle.timetable.specs.declared.fault.LoadFault.{LoadFault}
-use Rattle.timetable.specs.declared.fault.LoadFault.TheVariants as load
-use Rattle.timetable.specs.declared.file.File.{File}
+use Rattle.timetable.specs.declared.LoadFault.{LoadFault}
+use Rattle.timetable.specs.declared.LoadFault.TheVariants as load
+use Rattle.timetable.specs.declared.File.{File}
 
 abbrev pub memory_text : List ℕ
 memory_text = codes "out of memory\n"

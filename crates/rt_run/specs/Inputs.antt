@@ -4,8 +4,8 @@ use Rattle.rt_outside.specs.Store.{Contents}
 use Rattle.timetable.specs.Columns.{name_of}
 use Rattle.timetable.specs.Folders.{path}
 use Rattle.timetable.specs.Timetables.{Tables, tables_of}
-use Rattle.timetable.specs.declared.fault.LoadFault.{LoadFault}
-use Rattle.timetable.specs.declared.fault.LoadFault.TheVariants.{MissingFile, MissingColumn, BadText, BadValue, RepeatedKey, TooLarge, ReadFault, Memory}
+use Rattle.timetable.specs.declared.LoadFault.{LoadFault}
+use Rattle.timetable.specs.declared.LoadFault.TheVariants.{MissingFile, MissingColumn, BadText, BadValue, RepeatedKey, TooLarge, ReadFault, Memory}
 
 -- an input is refused: the name of its file, and what is wrong with it
 abbrev pub refused_text : List ℕ → List ℕ → List ℕ

@@ -20,9 +20,9 @@ use Rattle.timetable.specs.Timetables.{Tables, trip_times, visits_twice}
 use Rattle.timetable.specs.Stops.{stop_time_at}
 use Rattle.timetable.specs.Times.{BySequence}
 use Rattle.timetable.specs.Lookups.{is_present, tables_in}
-use Rattle.timetable.specs.declared.frequency.Frequency.{Frequency}
-use Rattle.timetable.specs.declared.trip.Trip.{Trip}
-use Rattle.timetable.specs.declared.stop_time.StopTime.{StopTime}
+use Rattle.timetable.specs.declared.Frequency.{Frequency}
+use Rattle.timetable.specs.declared.Trip.{Trip}
+use Rattle.timetable.specs.declared.StopTime.{StopTime}
 use Rattle.timetable.specs.declared.timetable.Timetable.{Timetable}
 use Rattle.rule_core.specs.declared.ask.Ask.{Ask}
 use Rattle.rule_core.specs.declared.ask.Ask.TheVariants as ask

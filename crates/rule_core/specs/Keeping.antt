@@ -10,7 +10,7 @@ use Rattle.feed_values.specs.declared.cell_value.CellValue.{CellValue}
 use Rattle.feed_values.specs.declared.cell_value.CellValue.TheVariants as value
 use Rattle.timetable.specs.Stops.{stop_time_at}
 use Rattle.timetable.specs.Timetables.{Tables}
-use Rattle.timetable.specs.declared.stop_time.StopTime.{StopTime}
+use Rattle.timetable.specs.declared.StopTime.{StopTime}
 use Rattle.rule_core.specs.Answered.{trip_known}
 use Rattle.rule_core.specs.Asked.{number_in, sequence_of, text_in}
 use Rattle.rule_core.specs.Passed.{is_given, same_cell}

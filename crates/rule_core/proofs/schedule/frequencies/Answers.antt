@@ -4,7 +4,7 @@ use Rattle.std.specs.FinMap.{get, get-empty}
 use Rattle.std.specs.Cmp.Lexicographic.{slice_cmp}
 use Rattle.std.specs.Ordering.{nat_cmp}
 use Rattle.timetable.specs.Lookups.{tables_in}
-use Rattle.timetable.specs.declared.frequency.Frequency.{Frequency}
+use Rattle.timetable.specs.declared.Frequency.{Frequency}
 use Rattle.rule_core.specs.Answered.{trip_known}
 use Rattle.rule_core.proofs.schedule.frequencies.Goals as goal
 
