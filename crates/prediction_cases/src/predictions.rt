@@ -5,7 +5,7 @@ use crate::updates::trip_update;
 use cases::{say, word};
 use feed_values::TripUpdate;
 use propagation::{Predictions, Resolver, Source};
-use rt_report::{prediction_head, prediction_rows};
+use prediction_table::{prediction_head, prediction_rows};
 use std::alloc::{AllocError, Global};
 use timetable::Timetable;
 use trip_calendar::Zone;

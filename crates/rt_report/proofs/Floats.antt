@@ -4,7 +4,7 @@ use Rattle.serde_json.specs.Written.{has_float}
 use Rattle.rule_core.specs.declared.place.Place.{Place}
 use Rattle.rule_core.specs.declared.place.Place.TheVariants as place
 use Rattle.rule_core.specs.declared.rule.RuleId.{RuleId}
-use Rattle.rt_report.specs.Lines.{closed_data}
+use Rattle.rt_report.specs.Findings.{closed_data}
 
 pub closed_has_none : (rule : RuleId) (at : Place) → has_float (closed_data rule at) ≡ false
 closed_has_none rule (place.Head feed slot) = refl

@@ -1,5 +1,5 @@
 pub mod Ranges
 pub mod Floats
-pub mod DateTexts
-pub mod RowTexts
 pub mod Given
+pub mod Joined
+pub mod Added

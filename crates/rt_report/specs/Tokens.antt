@@ -6,7 +6,8 @@ use Rattle.json.specs.Written.{Written}
 use Rattle.serde_json.specs.Data.{Data, string, object, member, no_members}
 use Rattle.serde_json.specs.Written.{outline}
 use Rattle.rule_core.specs.declared.fact.Fact.{Fact}
-use Rattle.rt_report.specs.Lines.{count, fact_data}
+use Rattle.snapshot_lines.specs.Lines.{count}
+use Rattle.rt_report.specs.Findings.{fact_data}
 
 -- tokens were appended, behind the text that stood there before
 pub record Adds (old new : Written) (tokens : List Token) : Type 0 where

@@ -2,7 +2,7 @@
 ghost use Rattle.std.specs.Prelude.{◌≡◌, [], ◌∷◌, OnOk, map, decimal};
 ghost use Rattle.json.specs.Token as token;
 ghost use Rattle.feed_values.specs.Cells.{path_text};
-ghost use Rattle.rt_report.specs.Lines.{kind_name, ask_name, ask_keys};
+ghost use Rattle.rt_report.specs.Findings.{kind_name, ask_name, ask_keys};
 ghost use Rattle.rt_report.specs.Tokens.{Adds};
 
 use crate::tokens::push_item;

@@ -3,12 +3,13 @@ ghost use Rattle.std.specs.Prelude.{◌≡◌, IfOk};
 ghost use Rattle.feed_values.specs.Cells.{path_text};
 ghost use Rattle.serde_json.specs.View.{view};
 ghost use Rattle.rule_core.specs.Rules.{rule_name};
-ghost use Rattle.rt_report.specs.Lines.{line_of, closed_data, head_closed, entity_closed};
+ghost use Rattle.snapshot_lines.specs.Lines.{line_of};
+ghost use Rattle.rt_report.specs.Findings.{closed_data, head_closed, entity_closed};
 
-use crate::line::line_of;
 use feed_values::{Path, Slot};
 use rule_core::{EntityKey, Place, RuleId};
 use serde_json::{Value, json};
+use snapshot_lines::line_of;
 use std::alloc::{AllocError, Global};
 
 fn head_value(alloc: Global, rule: RuleId, feed: u8, slot: Slot) -> Result<Value, AllocError>

@@ -5,7 +5,8 @@ ghost use Rattle.json.specs.Token as token;
 ghost use Rattle.serde_json.specs.Data.{number};
 ghost use Rattle.serde_json.specs.Find.{of_integer};
 ghost use Rattle.rule_core.specs.Asked.{in_range};
-ghost use Rattle.rt_report.specs.Lines.{line_of, line_name, cell_data, fact_data, facts_data, entity_finding, finding_data, finding_at};
+ghost use Rattle.snapshot_lines.specs.Lines.{line_of};
+ghost use Rattle.rt_report.specs.Findings.{line_name, cell_data, fact_data, facts_data, entity_finding, finding_data, finding_at};
 ghost use Rattle.rule_core.specs.declared.place.Place.TheVariants as place;
 ghost use Rattle.rt_report.specs.Tokens.{Adds, tokens_of, fact_tokens, head_finding};
 

@@ -1,24 +1,20 @@
-//! The lines of a report: JSON objects as compact text, each with a line feed. And the rows of the table of stop events, as CSV.
+//! The lines of a report: JSON objects as compact text, each with a line feed.
 //!
-//! `specs/Lines.antt` says what each line holds; `compact_text` of serde_json's specs says which bytes that is. Keys stand in
-//! byte order. `specs/Predictions.antt` says which fields each row has; `row_text` of csv's specs says which bytes that is.
+//! `specs/Findings.antt` says what each line of a finding holds; `compact_text` of serde_json's specs says which bytes that is. Keys
+//! stand in byte order. The lines of snapshots are those of snapshot_lines, and are handed on.
 //!
-//! `line` makes a line of a value, and `tokens` the members of one; `asked` has asks as JSON. `snapshot` has the lines of snapshots, `finding` and
-//! `closed` those of findings and of rules that stand no more, `trial` the sum of a trial. `prediction` has the rows, and `date_text` their dates.
+//! - `tokens`: the members of an object; `asked`: asks as JSON
+//! - `finding`, `closed`: the lines of findings, and of rules that stand no more
+//! - `lines`: lines of findings one after the other, and whether one is of an error
 #![tactic(auto)]
 
 mod asked;
 mod closed;
-mod date_text;
 mod finding;
-mod line;
-mod prediction;
-mod snapshot;
+mod lines;
 mod tokens;
-mod trial;
 
 pub use closed::closed_line;
 pub use finding::{LineKind, finding_line};
-pub use prediction::{prediction_head, prediction_rows};
-pub use snapshot::{accepted_line, refused_line};
-pub use trial::trial_line;
+pub use lines::{Lines, is_error};
+pub use snapshot_lines::{Accepted, TrialSums, accepted_line, refused_line, trial_line};

@@ -1,17 +1,24 @@
 -- What a run is to write and to answer, by its words, the moment and what the files hold. (This profile.)
-use Rattle.std.specs.Prelude.{◌≡◌, ℕ, List, Option, Some, None, IfSome, unwrap_or}
-use Rattle.std.specs.Io.KnownBytes.{append_known}
-use Rattle.rt_outside.specs.Sink.{AppendsPrefix}
-use Rattle.rt_outside.specs.Store.{Contents, contents_told}
-use Rattle.rt_run.specs.declared.request.Request.{Request}
-use Rattle.rt_run.specs.declared.request.Request.TheVariants.{Check, Follow, Predict, Show, Encode, Trial}
-use Rattle.rt_run.specs.declared.status.Status.{Status}
-use Rattle.rt_run.specs.Faults.{IsReported}
-use Rattle.rt_run.specs.Outside.{Outside}
-use Rattle.rt_run.specs.Predicted.{Extent, Whole, MayBegin, IsPredictReport}
-use Rattle.rt_run.specs.Report.{Report, check_report, follow_report, file_report, shown_report, encode_report, usage_report}
-use Rattle.rt_run.specs.Tried.{trial_report}
-use Rattle.rt_run.specs.Words.{request}
+use Rattle.std.specs.Prelude.{◌≡◌, ℕ, List, [], codes, Option, Some, None, unwrap_or}
+use Rattle.rt_outside.specs.Store.{Contents}
+use Rattle.run_words.specs.declared.request.Request.{Request}
+use Rattle.run_words.specs.declared.request.Request.TheVariants.{Check, Follow, Predict, Show, Encode, Trial}
+use Rattle.run_words.specs.Words.{request}
+use Rattle.run_base.specs.declared.status.Status.TheVariants as answer
+use Rattle.run_base.specs.Carried.{Extent}
+use Rattle.run_base.specs.Report.{Report, file_report}
+use Rattle.run_check.specs.Check.{check_report}
+use Rattle.run_follow.specs.Follow.{follow_report}
+use Rattle.run_json.specs.Reports.{encode_report, shown_report}
+use Rattle.run_predict.specs.Predicted.{IsPredictReport}
+use Rattle.run_trial.specs.Tried.{trial_report}
+
+abbrev pub usage_text : List ℕ
+usage_text = codes "usage: rt_command check [--timetable DIR] [--now N] FILE...\n       rt_command follow [--timetable DIR] --list FILE\n       rt_command predict --timetable DIR (--zone-rule TEXT | --zone-file FILE) [--now N] FILE\n       rt_command show FILE\n       rt_command encode FILE\n       rt_command trial N\n"
+
+-- the report where the words give no request
+abbrev pub usage_report : Report
+usage_report = record { text = []; errors = usage_text; status = answer.Usage }
 
 -- A report on a request. That of `predict` is one of a relation, which may be begun; the others are functions. The moment of
 -- `check` and `predict` is that of the words, or else the clock's.
@@ -30,14 +37,3 @@ IsReportOf (Some asked) now extent contents report = IsAsked asked now extent co
 -- a report on these words at this moment over these files
 abbrev pub IsReport : List (List ℕ) → ℕ → Extent → Contents → Report → Type 0
 IsReport words now extent contents report = IsReportOf (request words) now extent contents report
-
--- A prefix of a report's text was written to the output. Where the answer is one that a report may have, the report is whole, all of
--- its text was written, the answer is its own, and so is what was written to the error stream.
-pub record TellsReport (is : Extent → Contents → Report → Type 0) (before after : Outside) (result : Status) : Type 0 where
-  pub report : Report
-  pub begun : IfSome (contents_told before.files.told) (λ held. MayBegin (λ extent. is extent held) report)
-  pub whole : IsReported result → IfSome (contents_told before.files.told) (λ held. is Whole held report)
-  pub text : IfSome (contents_told before.files.told) (λ held. AppendsPrefix before.out.written after.out.written report.text)
-  pub all : IsReported result → IfSome (contents_told before.files.told) (λ held. after.out.written ≡ append_known before.out.written report.text)
-  pub status : IsReported result → IfSome (contents_told before.files.told) (λ held. result ≡ report.status)
-  pub errors : IsReported result → IfSome (contents_told before.files.told) (λ held. after.err.written ≡ append_known before.err.written report.errors)

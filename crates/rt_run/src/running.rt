@@ -2,23 +2,21 @@
 ghost use Rattle.std.specs.Prelude.{◌≡◌, ◌⊎◌, Some, None, map, string_bytes};
 ghost use Rattle.rt_outside.specs.Causes.{Rose};
 ghost use Rattle.rt_outside.specs.Store.{contents_told};
-ghost use Rattle.rt_run.specs.Words.{request, NamesFiles};
-ghost use Rattle.rt_run.specs.Predicted.{CarriesOutOne};
-ghost use Rattle.rt_run.specs.Reported.{IsAsked, IsReport, TellsReport};
-ghost use Rattle.rt_run.specs.Outside.{outside};
-ghost use Rattle.rt_run.specs.Faults.{Reads, IsWithoutRequest, IsWithoutEngine, TellsFault};
+ghost use Rattle.run_words.specs.Words.{request, NamesFiles};
+ghost use Rattle.run_base.specs.Carried.{CarriesOut, TellsReport};
+ghost use Rattle.run_base.specs.Faults.{TellsOneOf};
+ghost use Rattle.run_base.specs.Outside.{outside};
+ghost use Rattle.rt_run.specs.Reads.{IsRunText, IsWithoutEngine, IsWithoutRequest, Reads};
+ghost use Rattle.rt_run.specs.Reported.{IsAsked, IsReport};
 
-use crate::check::check;
-use crate::encode::encode;
-use crate::follow::follow;
-use crate::prediction::predict;
-use crate::request::Request;
-use crate::say::{say, say_memory};
-use crate::show::show;
-use crate::status::Status;
-use crate::trial::trial;
-use crate::words::words_of;
 use rt_outside::{Files, Sink, Steps};
+use run_base::{Status, say, say_memory};
+use run_check::check;
+use run_follow::follow;
+use run_json::{encode, show};
+use run_predict::predict;
+use run_trial::trial;
+use run_words::{Request, words_of};
 use std::alloc::Global;
 use std::sync::ledger::Ledger;
 
@@ -63,8 +61,8 @@ pub fn run<F: Files, S: Sink, E: Sink, D: Ledger, T: Ledger>(
         → Rose (S.state out.old).faults (S.state out.new).faults ⊎ Rose (E.state err.old).faults (E.state err.new).faults }
 
     // Each fault is told on the error stream.
-    ensures told { TellsFault (Reads (request (map string_bytes words.now)) (contents_told (F.state files.old).told)) (F.state files.new).asked
-        (E.state err.old) (E.state err.new) result }
+    ensures told { let reads = Reads (request (map string_bytes words.now)) (contents_told (F.state files.old).told) in
+        TellsOneOf (IsRunText reads) reads (F.state files.new).asked (E.state err.old) (E.state err.new) result }
 
     // The counters stay where no engine is asked.
     ensures decodes { IsWithoutEngine (request (map string_bytes words.now)) → decodes.new ≡ decodes.old }
@@ -89,7 +87,7 @@ fn carry_out<F: Files, S: Sink, E: Sink, D: Ledger, T: Ledger>(
     tests: &mut Steps<T>,
 ) -> Status
     requires { NamesFiles request.now }
-    ensures carried { CarriesOutOne (IsAsked request.now now) (Reads (Some request.now) (contents_told (F.state files.old).told))
+    ensures carried { CarriesOut (IsAsked request.now now) (Reads (Some request.now) (contents_told (F.state files.old).told))
         (outside (F.state files.old) (S.state out.old) (E.state err.old))
         (outside (F.state files.new) (S.state out.new) (E.state err.new)) result }
     ensures decodes { IsWithoutEngine (Some request.now) → decodes.new ≡ decodes.old }

@@ -2,21 +2,21 @@
 
 use cases::{number, say, word};
 use feed_codec::check_snapshot;
-use rt_report::{accepted_line, refused_line};
+use rt_report::{Accepted, accepted_line, refused_line};
 use std::alloc::{AllocError, Global};
 
 fn say_accepted(alloc: Global, words: &[String], out: &mut Vec<u8>) -> Result<(), AllocError> {
-    let line = accepted_line(
-        alloc,
-        word(words, 1).parse().unwrap_or(0),
-        number(words, 2),
-        number(words, 3),
-        number(words, 4),
-        number(words, 5),
-        number(words, 6),
-        number(words, 7),
-        number(words, 8),
-    )?;
+    let it = Accepted {
+        feed: word(words, 1).parse().unwrap_or(0),
+        row: number(words, 2),
+        snapshot: number(words, 3),
+        moment: number(words, 4),
+        entities: number(words, 5),
+        tested: number(words, 6),
+        paired: number(words, 7),
+        bounded: number(words, 8),
+    };
+    let line = accepted_line(alloc, &it)?;
     out.extend_from_slice(&line)
 }
 

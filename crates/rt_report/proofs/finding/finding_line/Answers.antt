@@ -1,5 +1,5 @@
 use Rattle.std.proofs.Common.{◌∙◌}
-use Rattle.rt_report.specs.Lines.{finding_data}
+use Rattle.rt_report.specs.Findings.{finding_data}
 use Rattle.rt_report.proofs.Given.{line_is}
 use Rattle.rt_report.proofs.finding.finding_line.Goals as goal
 

@@ -1,6 +1,6 @@
 use Rattle.std.proofs.Common.{◌++◌, ◌∷◌, [], codes, subst}
 use Rattle.json.specs.Token as token
-use Rattle.rt_report.specs.Lines.{ask_keys, cell_data}
+use Rattle.rt_report.specs.Findings.{ask_keys, cell_data}
 use Rattle.rt_report.specs.Tokens.{Adds, tokens_of}
 use Rattle.rt_report.proofs.Given.{then, one, last, key_items}
 use Rattle.rt_report.proofs.finding.push_fact.Goals as goal

@@ -1,5 +1,5 @@
 use Rattle.std.proofs.Common.{sym, subst, ◌∙◌, OnOk}
-use Rattle.rt_report.specs.Lines.{finding_at}
+use Rattle.rt_report.specs.Findings.{finding_at}
 use Rattle.rt_report.specs.Tokens.{Adds, tokens_of}
 use Rattle.rt_report.proofs.finding.push_finding.Goals as goal
 

@@ -1,17 +1,18 @@
 use Rattle.std.proofs.Common.{refl}
 use Rattle.rt_outside.specs.Store.{contents_told}
-use Rattle.rt_run.specs.Report.{shown_report, file_report, encode_report}
-use Rattle.rt_run.proofs.Asked.{one_report, carried_listed, one_predicted}
-use Rattle.rt_run.proofs.Carried.{carried_at, carried_name}
+use Rattle.run_json.specs.Reports.{shown_report, encode_report}
+use Rattle.run_base.specs.Report.{file_report}
+use Rattle.rt_run.proofs.Asked.{carried_at, carried_listed, one_predicted}
+use Rattle.run_base.proofs.Chosen.{carried_name}
 use Rattle.rt_run.proofs.running.carry_out.Goals as goal
 
 pub returns-in-Check-clause-carried : goal.returns-in-Check-clause-carried
 returns-in-Check-clause-carried g c =
-    rw c.in-Check.is (one_report _ _ _ _ c.check.result (carried_at _ _ c.unwrap_or-moment.result _ _ _ _ _ c.check.result c.as_ref-folder.ensures.value c.unwrap_or-moment.ensures refl c.check.ensures.carried))
+    rw c.in-Check.is (carried_at _ _ c.unwrap_or-moment.result _ _ _ _ _ c.check.result c.as_ref-folder.ensures.value c.unwrap_or-moment.ensures refl c.check.ensures.carried)
 
 pub returns-in-Follow-clause-carried : goal.returns-in-Follow-clause-carried
 returns-in-Follow-clause-carried g c =
-    rw c.in-Follow.is (one_report _ _ _ _ c.follow.result (carried_listed _ _ _ _ _ _ _ c.follow.result c.as_ref-folder-in-Follow.ensures.value c.as_str.ensures c.follow.ensures))
+    rw c.in-Follow.is (carried_listed _ _ _ _ _ _ _ c.follow.result c.as_ref-folder-in-Follow.ensures.value c.as_str.ensures c.follow.ensures)
 
 pub returns-in-Predict-clause-carried : goal.returns-in-Predict-clause-carried
 returns-in-Predict-clause-carried g c =
@@ -19,10 +20,10 @@ returns-in-Predict-clause-carried g c =
 
 pub returns-in-Show-clause-carried : goal.returns-in-Show-clause-carried
 returns-in-Show-clause-carried g c =
-    rw c.in-Show.is (one_report _ _ _ _ c.show.result (carried_name (file_report shown_report) _ _ _ _ c.show.result c.as_str-in-Show.ensures c.show.ensures))
+    rw c.in-Show.is (carried_name (file_report shown_report) _ _ _ _ c.show.result c.as_str-in-Show.ensures c.show.ensures)
 
 pub returns-in-Encode-clause-carried : goal.returns-in-Encode-clause-carried
-returns-in-Encode-clause-carried g c = rw c.in-Encode.is (one_report _ _ _ _ c.encode.result (carried_name encode_report _ _ _ _ c.encode.result c.as_str-in-Encode.ensures c.encode.ensures))
+returns-in-Encode-clause-carried g c = rw c.in-Encode.is (carried_name encode_report _ _ _ _ c.encode.result c.as_str-in-Encode.ensures c.encode.ensures)
 
 pub returns-in-Trial-clause-carried : goal.returns-in-Trial-clause-carried
-returns-in-Trial-clause-carried g c = rw c.in-Trial.is (one_report _ _ _ _ c.trial.result (c.trial.ensures (g.F.Files.state c.args.files.now)))
+returns-in-Trial-clause-carried g c = rw c.in-Trial.is (c.trial.ensures (g.F.Files.state c.args.files.now))

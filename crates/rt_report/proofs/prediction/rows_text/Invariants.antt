@@ -1,8 +1,0 @@
-use Rattle.std.proofs.Common.{◌∷◌, [], take, flat_map}
-use Rattle.rt_report.specs.Predictions.{prediction_text}
-use Rattle.rt_report.specs.Writing.{HasWritten}
-use Rattle.rt_report.proofs.prediction.rows_text.Given as goal
-
--- the rows so far are written
-abbrev pub invariant-loop-row : goal.invariant-loop-row
-invariant-loop-row l = HasWritten l.writer (flat_map (prediction_text (l.id ∷ l.occurrence ∷ l.trip ∷ l.day ∷ [])) (take l.row-index l.rows))

@@ -1,7 +1,0 @@
-use Rattle.rt_run.proofs.Added.{adds_changes}
-use Rattle.rt_run.proofs.lines.Lines.push_changes.Goals as goal
-
-pub returns : goal.returns
-returns c =
-    adds_changes c.args.self.now (record { text = c.push_closed.new.text; error = c.either-self.result }) c.push_opened.new.text.items c.as_slice-opened.result.now c.args.delta.now.opened
-    c.as_slice.result.now c.args.delta.now.closed c.opens_error.result c.as_slice-opened.ensures c.as_slice.ensures c.in_ok-push_opened.ensures c.in_ok-push_closed.ensures c.opens_error.ensures c.either-self.ensures

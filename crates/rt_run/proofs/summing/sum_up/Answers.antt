@@ -1,7 +1,0 @@
-use Rattle.rule_core.specs.Answered.{tables_of}
-use Rattle.trial_feed.specs.Snapshots.{trial_snapshots}
-use Rattle.rt_run.proofs.Trying.{summed_text}
-use Rattle.rt_run.proofs.summing.sum_up.Goals as goal
-
-pub returns : goal.returns
-returns g c = summed_text (tables_of c.args.timetable) (trial_snapshots c.args.seed) c.in_ok-end.end c.summary.result c.in_ok-end.ensures c.summary.ensures

@@ -1,0 +1,6 @@
+pub mod Named
+pub mod Told
+pub mod Carried
+pub mod Chosen
+pub mod Refusals
+pub mod Pieces

@@ -1,0 +1,9 @@
+pub mod Carried
+pub mod Report
+pub mod Outside
+pub mod Exits
+pub mod Faults
+pub mod Inputs
+pub mod Found
+pub mod Pieces
+pub use Rattle.snapshot_lines.specs.Lines

@@ -1,0 +1,108 @@
+//! The command `follow`.
+ghost use Rattle.std.specs.Prelude.{None, Contains, option_copied};
+ghost use Rattle.rt_outside.specs.Store.{contents_told};
+ghost use Rattle.feed_list.specs.Lists.{IsWithinLimits};
+ghost use Rattle.rule_core.specs.Answered.{tables_of};
+ghost use Rattle.run_base.specs.Carried.{CarriesOut, exactly};
+ghost use Rattle.run_base.specs.Outside.{outside};
+ghost use Rattle.run_rows.specs.Rows.{all_rows, paths_of};
+ghost use Rattle.run_rows.specs.declared.telling.Telling.TheVariants.{Changes};
+ghost use Rattle.run_follow.specs.Follow.{IsFollowed, follow_report, followed, list_report};
+
+use crate::list_fault::told_as;
+use feed_list::{ListRow, read_list};
+use feed_values::Text;
+use rt_outside::{Files, Sink, Steps};
+use run_base::{Status, say_input_fault};
+use run_rows::{Telling, follow_rows, say_row_fault};
+use run_timetable::load_given;
+use std::alloc::Global;
+use std::sync::ledger::Ledger;
+use timetable::Timetable;
+
+/// Carries out `follow` on the list in this file: writes what each of its snapshots opens and closes.
+///
+/// Where a folder is given, its timetable is read first; one that is refused ends the run. Where none is given, the rules
+/// against the timetable find nothing. The list is read whole before its first snapshot.
+pub fn follow<F: Files, S: Sink, E: Sink, D: Ledger, T: Ledger>(
+    alloc: Global,
+    folder: Option<&Text>,
+    list: &str,
+    files: &mut F,
+    out: &mut S,
+    err: &mut E,
+    decodes: &mut Steps<D>,
+    tests: &mut Steps<T>,
+) -> Status
+    ensures { CarriesOut (exactly (follow_report (option_copied folder.entry) list.now))
+        (IsFollowed (contents_told (F.state files.old).told) (option_copied folder.entry) list.now)
+        (outside (F.state files.old) (S.state out.old) (E.state err.old))
+        (outside (F.state files.new) (S.state out.new) (E.state err.new)) result }
+{
+    match load_given(alloc, files, folder) {
+        Ok(timetable) => follow_list(alloc, timetable, list, files, out, err, decodes, tests),
+        Err(fault) => say_input_fault(err, fault),
+    }
+}
+
+// Follows the list in this file with a timetable.
+fn follow_list<F: Files, S: Sink, E: Sink, D: Ledger, T: Ledger>(
+    alloc: Global,
+    timetable: Timetable,
+    list: &str,
+    files: &mut F,
+    out: &mut S,
+    err: &mut E,
+    decodes: &mut Steps<D>,
+    tests: &mut Steps<T>,
+) -> Status
+    ensures { CarriesOut (exactly (list_report list.now (tables_of timetable)))
+        (IsFollowed (contents_told (F.state files.old).told) None list.now)
+        (outside (F.state files.old) (S.state out.old) (E.state err.old))
+        (outside (F.state files.new) (S.state out.new) (E.state err.new)) result }
+{
+    match read_list(alloc, files, list) {
+        Ok(rows) => follow_listed(
+            alloc,
+            timetable,
+            rows.as_slice(),
+            files,
+            out,
+            err,
+            decodes,
+            tests,
+        ),
+        Err(fault) => say_input_fault(err, told_as(alloc, list, fault)),
+    }
+}
+
+// Follows these rows with a timetable.
+fn follow_listed<F: Files, S: Sink, E: Sink, D: Ledger, T: Ledger>(
+    alloc: Global,
+    timetable: Timetable,
+    rows: &[ListRow],
+    files: &mut F,
+    out: &mut S,
+    err: &mut E,
+    decodes: &mut Steps<D>,
+    tests: &mut Steps<T>,
+) -> Status
+    requires { IsWithinLimits rows.now }
+    ensures { CarriesOut (exactly (λ held. followed (all_rows Changes (tables_of timetable) held rows.now))) (Contains (paths_of rows.now))
+        (outside (F.state files.old) (S.state out.old) (E.state err.old))
+        (outside (F.state files.new) (S.state out.new) (E.state err.new)) result }
+{
+    match follow_rows(
+        alloc,
+        Telling::Changes,
+        timetable,
+        rows,
+        files,
+        out,
+        decodes,
+        tests,
+    ) {
+        Ok(end) => Status::found(end.error),
+        Err(fault) => say_row_fault(err, fault, rows),
+    }
+}

@@ -1,0 +1,16 @@
+//! The commands `show` and `encode`: from a snapshot to its form as JSON, and back.
+//!
+//! `specs/Reports.antt` says what each writes and answers.
+//!
+//! - `show`: the form of the snapshot in a file
+//! - `json_input_fault`, `json_input`: the snapshot that a JSON file says, or why it isn't had
+//! - `encode`: the canonical bytes of the snapshot that a JSON file says
+#![tactic(auto)]
+
+mod encode;
+mod json_input;
+mod json_input_fault;
+mod show;
+
+pub use encode::encode;
+pub use show::show;

@@ -1,0 +1,4 @@
+pub mod Zoning
+pub mod Predicting
+pub mod Texts
+pub mod Tabled

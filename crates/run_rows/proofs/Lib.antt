@@ -1,0 +1,3 @@
+pub mod OpenedLines
+pub mod RowByRow
+pub mod Paths

@@ -1,0 +1,68 @@
+-- What the code holds while it follows rows: the invariants of its loop, of which the report in `Rows.antt` doesn't speak.
+use Rattle.std.specs.Prelude.{◌≡◌, ℕ, ◌+◌, ◌<◌, Bool, List, ◌++◌, length, Option, Some, IfSome, Result, Ok, Err, slice_get}
+use Rattle.std.specs.FinMap.{get}
+use Rattle.std.specs.Io.KnownBytes.{append_known}
+use Rattle.rt_outside.specs.Store.{Contents}
+use Rattle.feed_codec.specs.declared.refusal.Refusal.{Refusal}
+use Rattle.feed_list.specs.declared.row.ListRow.{ListRow}
+use Rattle.feed_stream.specs.declared.kept.Kept.{Kept}
+use Rattle.timetable.specs.Timetables.{Tables}
+use Rattle.rule_core.specs.History.{Snapshot}
+use Rattle.engine_laws.specs.Delta.{Delta}
+use Rattle.engine_laws.specs.Standings.{StandsFor}
+use Rattle.follow_engine.specs.declared.engine.Engine.{Engine}
+use Rattle.follow_engine.specs.Engines.{engine_data}
+use Rattle.run_base.specs.declared.fault.Fault.TheVariants as fault
+use Rattle.rt_report.specs.declared.lines.Lines.{Lines}
+use Rattle.run_rows.specs.declared.row.RowEnd.{RowEnd}
+use Rattle.run_rows.specs.declared.rows.RowFault.{RowFault}
+use Rattle.run_rows.specs.declared.telling.Telling.{Telling}
+use Rattle.run_rows.specs.Rows.{Outcome, accepted_text, told_text, told_error, row_outcome}
+use Rattle.run_base.specs.Found.{bytes_in}
+
+-- an engine stands for a history with a timetable
+abbrev pub Stands : Option Tables → Engine → List Snapshot → Type 0
+Stands t engine h = StandsFor (engine_data engine) t h
+
+-- the lines on an accepted snapshot
+pub record AreTold (telling : Telling) (number : ℕ) (row : ListRow) (d : Delta) (lines : Lines) : Type 0 where
+  pub text_is : lines.text.items ≡ accepted_text number row d ++ told_text telling d
+  pub error_is : lines.error ≡ told_error telling d
+
+-- the engine and the lines after a row are its outcome
+pub record IsOutcome (t : Option Tables) (o : Outcome) (end : RowEnd) : Type 0 where
+  pub stands_for : Stands t end.engine o.after
+  pub text_is : end.lines.text.items ≡ o.text
+  pub error_is : end.lines.error ≡ o.error
+
+-- a snapshot was judged by an engine
+abbrev pub Takes : Telling → ℕ → ListRow → Result (List ℕ) Refusal → Engine → RowEnd → Type 0
+Takes telling number row found engine end =
+    (t : Option Tables) (h : List Snapshot) → Stands t engine h → IsOutcome t (row_outcome telling t h number row found) end
+
+-- the snapshot of a row was judged: what was found in its file is what stands there, where that is told
+pub record IsRowEnd (told : Option Contents) (telling : Telling) (number : ℕ) (row : ListRow) (engine : Engine) (end : RowEnd) : Type 0 where
+  pub found : Result (List ℕ) Refusal
+  pub found_is : IfSome told (λ held. bytes_in (get held row.path) ≡ found)
+  pub takes : Takes telling number row found engine end
+
+-- after some rows: the engine stands for the history, and what was written is their lines
+pub record IsDone (t : Option Tables) (engine : Engine) (error : Bool) (before now : Option (List ℕ)) (o : Outcome) : Type 0 where
+  pub stands_for : Stands t engine o.after
+  pub error_is : error ≡ o.error
+  pub written : now ≡ append_known before o.text
+
+-- the engine stands for a history of at most so many snapshots
+pub record StandsWithin (t : Option Tables) (engine : Engine) (n : ℕ) : Type 0 where
+  pub history : List Snapshot
+  pub stands_for : Stands t engine history
+  pub within : length history < n + 1
+
+-- A fault came at a row whose file was the last asked for. A read fault comes where the count of the files rose, and a write
+-- fault where that of the output did.
+pub record IsRowFault (rows : List ListRow) (last : Option (List ℕ)) (read_rose write_rose : Type 0) (why : RowFault) : Type 0 where
+  pub row : ListRow
+  pub there : slice_get rows why.row ≡ Some row
+  pub named : IfSome last (λ name. name ≡ row.path)
+  pub read : why.fault ≡ fault.Read → read_rose
+  pub write : why.fault ≡ fault.Write → write_rose

@@ -1,0 +1,3 @@
+pub mod Sent
+pub mod Marks
+pub mod Reports

@@ -1,0 +1,68 @@
+use Rattle.std.proofs.Common.{List, sym, subst, arith}
+use Rattle.std.specs.Map.Iter.{deref_pair}
+use Rattle.std.proofs.lemmas.Map.Iter.{rest_more}
+use Rattle.feed_values.specs.Views.{feed_header_value}
+use Rattle.rule_core.specs.Answered.{Heads, tables_of}
+use Rattle.rule_core.specs.Found.{Found}
+use Rattle.judging.specs.Whole.{entity_found}
+use Rattle.judging.specs.Judged.{first_heads, found_at_seats}
+use Rattle.kept_rows.specs.Places.{AreWithin, entity_at, placed}
+use Rattle.run_snapshot.proofs.Sent.{Left, left_all, left_next, left_cut, at_err}
+use Rattle.run_snapshot.proofs.findings.send_entities.Goals as goal
+
+pub loop-key-init : goal.loop-key-init
+loop-key-init g c =
+    let t = tables_of c.args.timetable.now in
+    let rows = g.P.PairView.rows c.args.view.now in
+    let heads : Heads = first_heads (feed_header_value c.args.header.now) c.args.moment in
+    let all : List Found = found_at_seats t rows heads (placed c.args.kept.now c.args.places.now.entries) in
+    let before = (g.S.Sink.state c.args.out.now).written in
+    record {
+      left = subst (λ it. Left before c.args.lines.now all before c.args.lines.now (found_at_seats t rows heads (placed c.args.kept.now it)))
+          (sym c.into_iter-key-iterator.ensures.into_iter_gives.0) (left_all before c.args.lines.now all);
+      within = subst (AreWithin c.args.kept.now) (sym c.into_iter-key-iterator.ensures.into_iter_gives.0) c.requires;
+      later = omega arith;
+    }
+
+-- the findings of an entity couldn't be sent
+pub returns-in_err-send_entity-clause-part : goal.returns-in_err-send_entity-clause-part
+returns-in_err-send_entity-clause-part g c =
+    let t = tables_of c.args.timetable.now in
+    let rows = g.P.PairView.rows c.args.view.now in
+    let heads : Heads = first_heads (feed_header_value c.args.header.now) c.args.moment in
+    let all : List Found = found_at_seats t rows heads (placed c.args.kept.now c.args.places.now.entries) in
+    let xs : List Found = entity_found t rows heads c.in-Some.key.now (entity_at c.args.kept.now c.in-Some.place.now) in
+    let ys : List Found = found_at_seats t rows heads (placed c.args.kept.now c.next.new.self) in
+    let before = (g.S.Sink.state c.args.out.now).written in
+    let mid = (g.S.Sink.state c.loop-key.out).written in
+    let now = (g.S.Sink.state c.send_entity.new.out).written in
+    at_err c.from_residual.result
+    (left_cut before c.args.lines.now all mid now c.loop-key.lines xs ys
+    (subst (λ it. Left before c.args.lines.now all mid c.loop-key.lines (found_at_seats t rows heads (placed c.args.kept.now it)))
+    (rest_more deref_pair _ c.next.new.self c.next.result _ c.in-Some.is c.next.ensures.steps) c.loop-key.invariant.left)
+    c.in_err-send_entity.ensures.part)
+
+-- the findings of one entity more
+pub loop-key-preserved : goal.loop-key-preserved
+loop-key-preserved g c =
+    let t = tables_of c.args.timetable.now in
+    let rows = g.P.PairView.rows c.args.view.now in
+    let heads : Heads = first_heads (feed_header_value c.args.header.now) c.args.moment in
+    let all : List Found = found_at_seats t rows heads (placed c.args.kept.now c.args.places.now.entries) in
+    let xs : List Found = entity_found t rows heads c.in-Some.key.now (entity_at c.args.kept.now c.in-Some.place.now) in
+    let ys : List Found = found_at_seats t rows heads (placed c.args.kept.now c.next.new.self) in
+    let before = (g.S.Sink.state c.args.out.now).written in
+    let mid = (g.S.Sink.state c.loop-key.out).written in
+    let now = (g.S.Sink.state c.send_entity.new.out).written in
+    record {
+      left = left_next before c.args.lines.now all mid now c.loop-key.lines c.send_entity.new.lines xs ys
+          (subst (λ it. Left before c.args.lines.now all mid c.loop-key.lines (found_at_seats t rows heads (placed c.args.kept.now it)))
+          (rest_more deref_pair _ c.next.new.self c.next.result _ c.in-Some.is c.next.ensures.steps) c.loop-key.invariant.left)
+          c.in_ok-send_entity.ensures.sent;
+      within = (subst (AreWithin c.args.kept.now) (rest_more deref_pair _ c.next.new.self c.next.result _ c.in-Some.is c.next.ensures.steps) c.loop-key.invariant.within).1;
+      later = omega (arith, c.loop-key.invariant.later, c.in_ok-send_entity.ensures.later);
+    }
+
+-- the snapshot has the entity whose findings are sent
+pub send_entity-requires : goal.send_entity-requires
+send_entity-requires g c = (subst (AreWithin c.args.kept.now) (rest_more deref_pair _ c.next.new.self c.next.result _ c.in-Some.is c.next.ensures.steps) c.loop-key.invariant.within).0

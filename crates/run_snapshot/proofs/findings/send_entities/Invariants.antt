@@ -1,0 +1,20 @@
+use Rattle.std.proofs.Common.{◌≤◌}
+use Rattle.feed_values.specs.Views.{feed_header_value}
+use Rattle.rule_core.specs.Answered.{tables_of}
+use Rattle.judging.specs.Judged.{first_heads, found_at_seats}
+use Rattle.kept_rows.specs.Places.{AreWithin, placed}
+use Rattle.run_snapshot.proofs.Sent.{Left}
+use Rattle.run_snapshot.proofs.findings.send_entities.Given as goal
+
+-- what was sent, the lines that are held back and those of the entities that are left are all
+abbrev pub invariant-loop-key : goal.invariant-loop-key
+invariant-loop-key g l =
+    let t = tables_of l.timetable in
+    let rows = g.P.PairView.rows l.view in
+    let heads = first_heads (feed_header_value l.header) l.moment in
+    record {
+      left : Left (g.S.Sink.state l.fn.out).written l.fn.lines (found_at_seats t rows heads (placed l.kept l.places.entries))
+          (g.S.Sink.state l.out).written l.lines (found_at_seats t rows heads (placed l.kept l.key-iterator));
+      within : AreWithin l.kept l.key-iterator;
+      later : (g.S.Sink.state l.fn.out).faults ≤ (g.S.Sink.state l.out).faults;
+    }

@@ -1,0 +1,50 @@
+use Rattle.std.proofs.Common.{◌≡◌, ◌∙◌, ap, sym, subst}
+use Rattle.feed_values.specs.Snapshot.{entities_of, header_of}
+use Rattle.feed_values.specs.Views.{feed_header_value}
+use Rattle.rule_core.specs.Answered.{Heads, tables_of}
+use Rattle.judging.specs.Seats.{Rising, seats}
+use Rattle.judging.specs.Whole.{header_found}
+use Rattle.judging.specs.Judged.{first_heads, seat_rows, found_at_seats}
+use Rattle.judging.proofs.OneSnapshot.{seats_rise}
+use Rattle.rt_report.specs.FindingLines.{AddsLines}
+use Rattle.run_snapshot.specs.Sending.{Sends, SendsPart}
+use Rattle.run_snapshot.proofs.Sent.{sends_behind, part_behind, more_ok, more_err}
+use Rattle.run_snapshot.proofs.findings.send_snapshot.Goals as goal
+
+pub rows_of-requires-clause-rising : goal.rows_of-requires-clause-rising
+rows_of-requires-clause-rising g c = subst Rising (sym c.in_ok-places.ensures.seats_are) (seats_rise 0 (entities_of c.args.kept.now))
+
+-- the header's findings are held back, and those of the entities are sent
+pub returns-clause-sent : goal.returns-clause-sent
+returns-clause-sent g c =
+    let t = tables_of c.args.timetable.now in
+    let said : feed_header_value c.in_ok-header.header ≡ header_of c.args.kept.now = c.in_ok-header.ensures.value ∙ c.header_parts.ensures.header in
+    let heads : Heads = first_heads (header_of c.args.kept.now) c.args.moment in
+    let es = seats 0 (entities_of c.args.kept.now) in
+    let before = (g.S.Sink.state c.args.out.now).written in
+    let new = (g.S.Sink.state c.send_entities.new.out).written in
+    more_ok c.send_entities.result
+    (λ sent. sends_behind before new c.args.lines.now c.judge_header.new.lines (header_found t (seat_rows es) heads 0) (found_at_seats t (seat_rows es) heads es)
+    (subst (λ h. AddsLines c.args.lines.now c.judge_header.new.lines (header_found t (seat_rows es) (first_heads h c.args.moment) 0)) said (c.in_ok-judge_header.ensures t (seat_rows es))) c.send_entities.new.lines
+    (subst (Sends before new c.judge_header.new.lines c.send_entities.new.lines)
+    (c.in_ok-rows.ensures.found t (first_heads (feed_header_value c.in_ok-header.header) c.args.moment)
+    ∙ ap (λ s. found_at_seats t (seat_rows s) (first_heads (feed_header_value c.in_ok-header.header) c.args.moment) s) c.in_ok-places.ensures.seats_are
+    ∙ ap (λ h. found_at_seats t (seat_rows es) (first_heads h c.args.moment) es) said) sent))
+    c.send_entities.ensures.sent
+
+pub returns-clause-part : goal.returns-clause-part
+returns-clause-part g c =
+    let t = tables_of c.args.timetable.now in
+    let said : feed_header_value c.in_ok-header.header ≡ header_of c.args.kept.now = c.in_ok-header.ensures.value ∙ c.header_parts.ensures.header in
+    let heads : Heads = first_heads (header_of c.args.kept.now) c.args.moment in
+    let es = seats 0 (entities_of c.args.kept.now) in
+    let before = (g.S.Sink.state c.args.out.now).written in
+    let new = (g.S.Sink.state c.send_entities.new.out).written in
+    more_err c.send_entities.result
+    (λ part. part_behind before new c.args.lines.now c.judge_header.new.lines (header_found t (seat_rows es) heads 0) (found_at_seats t (seat_rows es) heads es)
+    (subst (λ h. AddsLines c.args.lines.now c.judge_header.new.lines (header_found t (seat_rows es) (first_heads h c.args.moment) 0)) said (c.in_ok-judge_header.ensures t (seat_rows es)))
+    (subst (SendsPart before new c.judge_header.new.lines)
+    (c.in_ok-rows.ensures.found t (first_heads (feed_header_value c.in_ok-header.header) c.args.moment)
+    ∙ ap (λ s. found_at_seats t (seat_rows s) (first_heads (feed_header_value c.in_ok-header.header) c.args.moment) s) c.in_ok-places.ensures.seats_are
+    ∙ ap (λ h. found_at_seats t (seat_rows es) (first_heads h c.args.moment) es) said) part))
+    c.send_entities.ensures.part

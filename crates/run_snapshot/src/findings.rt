@@ -1,0 +1,203 @@
+//! The findings of a snapshot by itself, as lines.
+ghost use Rattle.std.specs.Prelude.{◌≡◌, ◌<◌, ◌≤◌, ◌++◌, List, Option, OnOk, OnErr, IfOk, IsErrOf, length};
+ghost use Rattle.std.specs.Io.KnownBytes.{append_known};
+ghost use Rattle.std.specs.List.{flat_map};
+ghost use Rattle.rt_outside.specs.Causes.{Rose};
+ghost use Rattle.rt_outside.specs.Sink.{AppendsPrefix};
+ghost use Rattle.feed_values.specs.Snapshot.{entities_of, entity_payloads, header_of};
+ghost use Rattle.feed_values.specs.Views.{entity_value, feed_header_value};
+ghost use Rattle.timetable.specs.Timetables.{Tables};
+ghost use Rattle.rule_core.specs.Answered.{tables_of};
+ghost use Rattle.rule_core.specs.Marked.{marked};
+ghost use Rattle.rule_core.specs.Pairs.{PairRow};
+ghost use Rattle.judging.specs.Whole.{entity_found, header_found};
+ghost use Rattle.judging.specs.Judged.{first_answer, first_heads, found_at_seats, snapshot_found};
+ghost use Rattle.kept_rows.specs.Places.{AreWithin, entity_at, placed};
+ghost use Rattle.rt_report.specs.FindingLines.{AddsLines, finding_text, has_error};
+ghost use Rattle.run_snapshot.specs.Sending.{Sends, SendsPart};
+
+use crate::sending::send;
+use feed_codec::{decode_entity, decode_header};
+use feed_stream::Kept;
+use feed_values::{Entity, FeedHeader};
+use judging::{AllRules, finding_at, marks_at};
+use kept_rows::{places, rows_of};
+use rt_outside::{Sink, Steps, put_all};
+use rt_report::Lines;
+use rule_core::{EntityKey, Mark, PairView};
+use run_base::Fault;
+use std::alloc::{AllocError, Global};
+use std::collections::BTreeMap;
+use std::sync::ledger::{Blank, Ledger};
+use timetable::Timetable;
+
+/// Appends the findings on the header of feed 0.
+fn judge_header<L: Ledger>(
+    alloc: Global,
+    rules: &AllRules,
+    header: &FeedHeader,
+    moment: u64,
+    lines: &mut Lines,
+    tests: &mut Steps<L>,
+) -> Result<(), AllocError>
+    ensures { OnOk result ((t : Option Tables) (rows : List PairRow) → AddsLines lines.old lines.new (header_found t rows (first_heads (feed_header_value header.now) moment) 0)) }
+{
+    let found = rules.judge_header(alloc, 0, header, None, false, moment, tests)?;
+    lines.push(alloc, found.as_slice())
+}
+
+/// Sends the findings of marks at an entity, one after the other, so that no more than one is held.
+fn send_marked<P: PairView, S: Sink>(
+    alloc: Global,
+    timetable: &Timetable,
+    view: &P,
+    header: &FeedHeader,
+    moment: u64,
+    key: &EntityKey,
+    entity: &Entity,
+    marks: &[Mark],
+    lines: &mut Lines,
+    out: &mut S,
+) -> Result<(), Fault>
+    ensures sent { OnOk result (Sends (S.state out.old).written (S.state out.new).written lines.old lines.new
+        (marked (first_answer (tables_of timetable.now) (P.rows view.now) (feed_header_value header.now) moment key.now (entity_value entity.now)) key.now marks.now)) }
+    ensures part { OnErr result (SendsPart (S.state out.old).written (S.state out.new).written lines.old
+        (marked (first_answer (tables_of timetable.now) (P.rows view.now) (feed_header_value header.now) moment key.now (entity_value entity.now)) key.now marks.now)) }
+    ensures not_read { IsErrOf result Fault.Read → ⊥ }
+    ensures later { (S.state out.old).faults ≤ (S.state out.new).faults }
+    ensures write { IsErrOf result Fault.Write → Rose (S.state out.old).faults (S.state out.new).faults }
+{
+    for mark in marks {
+        let found = finding_at(alloc, timetable, view, header, moment, key, entity, *mark)?;
+        send(alloc, found.as_slice(), lines, out)?;
+    }
+    Ok(())
+}
+
+/// Sends the findings at the entity of a kept snapshot that has this number, which is decoded for it.
+fn send_entity<P: PairView, L: Ledger, S: Sink>(
+    alloc: Global,
+    timetable: &Timetable,
+    view: &P,
+    header: &FeedHeader,
+    moment: u64,
+    kept: &Kept,
+    key: &EntityKey,
+    place: usize,
+    lines: &mut Lines,
+    steps: &mut Steps<L>,
+    out: &mut S,
+) -> Result<(), Fault>
+    requires { place < length (entity_payloads kept.now) }
+    ensures sent { OnOk result (Sends (S.state out.old).written (S.state out.new).written lines.old lines.new
+        (entity_found (tables_of timetable.now) (P.rows view.now) (first_heads (feed_header_value header.now) moment) key.now (entity_at kept.now place))) }
+    ensures part { OnErr result (SendsPart (S.state out.old).written (S.state out.new).written lines.old
+        (entity_found (tables_of timetable.now) (P.rows view.now) (first_heads (feed_header_value header.now) moment) key.now (entity_at kept.now place))) }
+    ensures not_read { IsErrOf result Fault.Read → ⊥ }
+    ensures later { (S.state out.old).faults ≤ (S.state out.new).faults }
+    ensures write { IsErrOf result Fault.Write → Rose (S.state out.old).faults (S.state out.new).faults }
+{
+    let entity = decode_entity(alloc, kept.entity(place), steps)?;
+    let marks = marks_at(alloc, timetable, view, header, moment, key, &entity, steps)?;
+    send_marked(
+        alloc, timetable, view, header, moment, key, &entity, &marks, lines, out,
+    )
+}
+
+/// Sends the findings at the entities of a kept snapshot, one entity after the other.
+fn send_entities<P: PairView, L: Ledger, S: Sink>(
+    alloc: Global,
+    timetable: &Timetable,
+    view: &P,
+    header: &FeedHeader,
+    moment: u64,
+    kept: &Kept,
+    places: &BTreeMap<EntityKey, usize>,
+    lines: &mut Lines,
+    steps: &mut Steps<L>,
+    out: &mut S,
+) -> Result<(), Fault>
+    requires { AreWithin kept.now places.now.entries }
+    ensures sent { OnOk result (Sends (S.state out.old).written (S.state out.new).written lines.old lines.new
+        (found_at_seats (tables_of timetable.now) (P.rows view.now) (first_heads (feed_header_value header.now) moment) (placed kept.now places.now.entries))) }
+    ensures part { OnErr result (SendsPart (S.state out.old).written (S.state out.new).written lines.old
+        (found_at_seats (tables_of timetable.now) (P.rows view.now) (first_heads (feed_header_value header.now) moment) (placed kept.now places.now.entries))) }
+    ensures not_read { IsErrOf result Fault.Read → ⊥ }
+    ensures later { (S.state out.old).faults ≤ (S.state out.new).faults }
+    ensures write { IsErrOf result Fault.Write → Rose (S.state out.old).faults (S.state out.new).faults }
+{
+    for (key, place) in places {
+        send_entity(
+            alloc, timetable, view, header, moment, kept, key, *place, lines, steps, out,
+        )?;
+    }
+    Ok(())
+}
+
+/// Sends the findings of an accepted snapshot of feed 0, which is the first one of all, behind the lines that are held back. The
+/// counter is its own.
+fn send_snapshot<L: Ledger, S: Sink>(
+    alloc: Global,
+    timetable: &Timetable,
+    moment: u64,
+    kept: &Kept,
+    lines: &mut Lines,
+    blank: Blank,
+    out: &mut S,
+) -> Result<(), Fault>
+    requires name { blank.name ≡ L.name }
+    requires parts { blank.parts ≡ L.parts }
+    requires one { blank.parts ≡ 1 }
+    ensures sent { OnOk result (Sends (S.state out.old).written (S.state out.new).written lines.old lines.new
+        (snapshot_found (tables_of timetable.now) 0 moment (header_of kept.now) (entities_of kept.now))) }
+    ensures part { OnErr result (SendsPart (S.state out.old).written (S.state out.new).written lines.old
+        (snapshot_found (tables_of timetable.now) 0 moment (header_of kept.now) (entities_of kept.now))) }
+    ensures not_read { IsErrOf result Fault.Read → ⊥ }
+    ensures later { (S.state out.old).faults ≤ (S.state out.new).faults }
+    ensures write { IsErrOf result Fault.Write → Rose (S.state out.old).faults (S.state out.new).faults }
+{
+    let rules = AllRules::new();
+    let mut steps: Steps<L> = Steps::new(blank);
+    let header = decode_header(alloc, kept.header_parts())?;
+    let places = places(alloc, 0, kept)?;
+    let rows = rows_of(alloc, kept, &places)?;
+    judge_header(alloc, &rules, &header, moment, lines, &mut steps)?;
+    send_entities(
+        alloc, timetable, &rows, &header, moment, kept, &places, lines, &mut steps, out,
+    )
+}
+
+/// Writes a line, and behind it the findings of an accepted snapshot of feed 0, which is the first one of all. It answers whether
+/// one of them is of an error.
+///
+/// No more than one entity is held decoded, with a mark of a few bytes for each of its findings, and no more than one finding;
+/// lines are written as soon as they fill a piece. So memory grows with the bytes of the snapshot, the ids of its entities and
+/// the largest entity, and not with what all of them hold or what is found. The counter is its own.
+pub fn put_findings<L: Ledger, S: Sink>(
+    alloc: Global,
+    timetable: &Timetable,
+    moment: u64,
+    kept: &Kept,
+    first: Vec<u8>,
+    blank: Blank,
+    out: &mut S,
+) -> Result<bool, Fault>
+    requires name { blank.name ≡ L.name }
+    requires parts { blank.parts ≡ L.parts }
+    requires one { blank.parts ≡ 1 }
+    ensures text { AppendsPrefix (S.state out.old).written (S.state out.new).written
+        (first.items ++ flat_map finding_text (snapshot_found (tables_of timetable.now) 0 moment (header_of kept.now) (entities_of kept.now))) }
+    ensures whole { IfOk result (λ error.
+        let found = snapshot_found (tables_of timetable.now) 0 moment (header_of kept.now) (entities_of kept.now) in
+        (error ≡ has_error found) × ((S.state out.new).written ≡ append_known (S.state out.old).written (first.items ++ flat_map finding_text found))) }
+    ensures not_read { IsErrOf result Fault.Read → ⊥ }
+    ensures write { IsErrOf result Fault.Write → Rose (S.state out.old).faults (S.state out.new).faults }
+{
+    let mut lines = Lines {
+        text: first,
+        error: false,
+    };
+    send_snapshot::<L, S>(alloc, timetable, moment, kept, &mut lines, blank, out)?;
+    put_all(out, &lines.text)?;
+    Ok(lines.error)
+}

@@ -1,0 +1,18 @@
+//! `check` of one file: the report on a snapshot by itself, without an engine.
+//!
+//! `specs/Reports.antt` says what is written of an accepted snapshot, and what is answered. No more than one entity is held decoded, and
+//! no more than one finding.
+//!
+//! - `sending`: lines that are held back until they fill a piece
+//! - `findings`: those of a snapshot, sent by all rules, one entity after the other
+//! - `report`: the report on a snapshot that was accepted or refused
+//! - `report_file`: that on the snapshot in a file, carried out
+#![tactic(auto)]
+
+mod findings;
+mod report;
+mod report_file;
+mod sending;
+
+pub use report_file::report_file;
+pub use sending::send_piece;

@@ -1,0 +1,10 @@
+use Rattle.std.proofs.Common.{◌≡◌, ◌<◌, ◌++◌}
+use Rattle.std.specs.Slice.Iter.{chunks_rest, chunks_size}
+use Rattle.run_trial.proofs.summing.kept_in_pieces.Given as goal
+
+-- the pieces so far and what is left are all
+abbrev pub invariant-loop-piece : goal.invariant-loop-piece
+invariant-loop-piece l = record {
+  left : l.splitter ++ chunks_rest l.piece-iterator ≡ l.bytes;
+  some : 0 < chunks_size l.piece-iterator;
+}

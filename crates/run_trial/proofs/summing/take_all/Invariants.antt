@@ -1,0 +1,11 @@
+use Rattle.rule_core.specs.Answered.{tables_of}
+use Rattle.trial_feed.specs.Moving.{IsWithin}
+use Rattle.run_trial.proofs.Trying.{IsTrying}
+use Rattle.run_trial.proofs.summing.take_all.Given as goal
+
+-- the snapshots so far were taken, and those that are left are what the state makes
+abbrev pub invariant-loop-number : goal.invariant-loop-number
+invariant-loop-number g l = record {
+  trying : IsTrying (tables_of l.fn.timetable) l.fn.seed l.number l.trial l.end;
+  within : IsWithin l.number l.trial;
+}

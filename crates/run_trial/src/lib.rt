@@ -1,0 +1,14 @@
+//! The command `trial`: a timetable and snapshots that are made from a number, followed and summed up.
+//!
+//! `specs/Tried.antt` says what it writes and answers.
+//!
+//! - `sums`: sums over what snapshots change
+//! - `summing`: the snapshots, taken one after the other
+//! - `trial`: the command, carried out
+#![tactic(auto)]
+
+mod summing;
+mod sums;
+mod trial;
+
+pub use trial::trial;
