@@ -3,7 +3,7 @@
 ghost use Rattle.std.specs.Prelude.{◌≡◌, ◌≢◌, ◌∷◌, ◌+◌, ◌<◌, ◌^◌, length, List, Ok, Err, IfOk, IfErr, OnOk};
 ghost use Rattle.csv.specs.Records.{fields_of};
 ghost use Rattle.csv_records.specs.Records.{Record};
-ghost use Rattle.schedule_tables.specs.Tables.{absent_table, at_row, missing_column, rows_from, table_in, without_mark};
+ghost use Rattle.schedule_tables.specs.Tables.{absent_table, at_row, missing_column, rows_from, table_in, table_of_records, table_under, without_mark};
 ghost use Rattle.schedule_tables.specs.declared.fault.LoadFault.TheVariants as fault;
 
 use crate::fault::LoadFault;
@@ -142,12 +142,12 @@ fn without_mark(bytes: &[u8]) -> &[u8]
 fn read_rows<T: Table + Drop>(
     alloc: Global,
     header: &Header,
-    mut rows: Records<'_>,
+    rows: &mut Records<'_>,
     awaited: usize,
 ) -> Result<T, LoadFault>
-    requires { length rows < 2 ^ 63 + 1 }
-    ensures ok { IfOk result (λ table. rows_from T.format header.now 2 T.format.empty rows.entry ≡ Ok table) }
-    ensures err { IfErr result (λ e. e ≢ fault.Memory → rows_from T.format header.now 2 T.format.empty rows.entry ≡ Err e) }
+    requires { length rows.old < 2 ^ 63 + 1 }
+    ensures ok { IfOk result (λ table. rows_from T.format header.now 2 T.format.empty rows.old ≡ Ok table) }
+    ensures err { IfErr result (λ e. e ≢ fault.Memory → rows_from T.format header.now 2 T.format.empty rows.old ≡ Err e) }
 {
     let mut table = T::awaiting(alloc, awaited)?;
     let mut number = 2;
@@ -157,6 +157,40 @@ fn read_rows<T: Table + Drop>(
         number += 1;
     }
     Ok(table)
+}
+
+/// Reads a file below its header.
+fn read_under<T: Table + Drop>(
+    alloc: Global,
+    header: &Header,
+    rows: &mut Records<'_>,
+    awaited: usize,
+) -> Result<T, LoadFault>
+    requires { length rows.old < 2 ^ 63 + 1 }
+    ensures ok { IfOk result (λ table. table_under T.format header.now rows.old ≡ Ok table) }
+    ensures err { IfErr result (λ e. e ≢ fault.Memory → table_under T.format header.now rows.old ≡ Err e) }
+{
+    if let Some(column) = missing_column(T::file(), header) {
+        return Err(LoadFault::MissingColumn(T::file(), column));
+    }
+    read_rows(alloc, header, rows, awaited)
+}
+
+/// Reads the records of a file, of which the first is its header.
+fn read_records<T: Table + Drop>(
+    alloc: Global,
+    rows: &mut Records<'_>,
+    awaited: usize,
+) -> Result<T, LoadFault>
+    requires { length rows.old < 2 ^ 63 + 1 }
+    ensures ok { IfOk result (λ table. table_of_records T.format rows.old ≡ Ok table) }
+    ensures err { IfErr result (λ e. e ≢ fault.Memory → table_of_records T.format rows.old ≡ Err e) }
+{
+    let header = match rows.next()? {
+        Some(names) => Header::new(names),
+        None => Header::new(ByteRecord::new(alloc)),
+    };
+    read_under(alloc, &header, rows, awaited)
 }
 
 /// Reads a file that is held in memory, where `awaited` ids are awaited.
@@ -169,14 +203,7 @@ pub(crate) fn read_table<T: Table + Drop>(
     ensures err { IfErr result (λ e. e ≢ fault.Memory → table_in T.format bytes.now ≡ Err e) }
 {
     let mut rows = Records::new(alloc, without_mark(bytes));
-    let header = match rows.next()? {
-        Some(names) => Header::new(names),
-        None => Header::new(ByteRecord::new(alloc)),
-    };
-    if let Some(column) = missing_column(T::file(), &header) {
-        return Err(LoadFault::MissingColumn(T::file(), column));
-    }
-    read_rows(alloc, &header, rows, awaited)
+    read_records(alloc, &mut rows, awaited)
 }
 
 /// The table of a file that is absent.

@@ -1,6 +1,6 @@
 //! The trips of trips.txt while they are read.
 
-ghost use Rattle.std.specs.Prelude.{◌≡◌};
+ghost use Rattle.std.specs.Prelude.{◌≡◌, IfOk};
 ghost use Rattle.schedule_tables.specs.Numbers.{map_of};
 
 use crate::grouped::{Grouped, Only};
@@ -43,6 +43,19 @@ impl Trips {
     }
 }
 
+/// The same trip, with the texts of the first ids that were equal.
+fn shared(ids: &mut SharedIds, trip: Trip) -> Result<Trip, AllocError>
+    ensures { IfOk result (λ shared. shared ≡ trip) }
+{
+    let route = ids.shared(trip.route)?;
+    let service = ids.shared(trip.service)?;
+    Ok(Trip {
+        route,
+        service,
+        direction: trip.direction,
+    })
+}
+
 impl Table for Trips {
     ghost use Rattle.schedule_tables.specs.Formats.{trips};
 
@@ -66,16 +79,7 @@ impl Table for Trips {
     }
 
     fn put(&mut self, alloc: Global, row: Row<Trip>) -> Result<bool, AllocError> {
-        let Trip {
-            route,
-            service,
-            direction,
-        } = row.item;
-        let trip = Trip {
-            route: self.ids.shared(route)?,
-            service: self.ids.shared(service)?,
-            direction,
-        };
+        let trip = shared(&mut self.ids, row.item)?;
         self.trips.put(alloc, row.id, trip)
     }
 }
