@@ -1,7 +1,7 @@
 //! Why an input of a command isn't had.
 ghost use Rattle.run_base.specs.Inputs.{SaysInputFault};
 
-use crate::say::{say, say_memory, say_read_fault, say_read_fault_in};
+use crate::saying::{say, say_memory, say_read_fault, say_read_fault_in};
 use crate::status::Status;
 use rt_outside::Sink;
 
@@ -20,7 +20,7 @@ pub enum InputFault<'a> {
 
 /// Tells why an input isn't had, and answers it. For a read fault it takes no memory.
 pub fn say_input_fault<E: Sink>(err: &mut E, fault: InputFault<'_>) -> Status
-    ensures { SaysInputFault fault (E.state err.old) (E.state err.new) result }
+    ensures { SaysInputFault fault.entry (E.state err.old) (E.state err.new) result }
 {
     match fault {
         InputFault::Read(name) => say_read_fault(err, name),

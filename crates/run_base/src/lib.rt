@@ -5,7 +5,7 @@
 //!
 //! From the bottom up:
 //! - `status` and `fault` are how a run ends, and why it stops before its end.
-//! - `say` writes to the error stream. `input_fault` is why an input isn't had, and tells it.
+//! - `saying` writes to the error stream. `input_fault` is why an input isn't had, and tells it.
 //! - `refused` has the text of a refused input, and writes the line of a refused snapshot.
 //! - `snapshot_file` reads a snapshot, as a message or as its bytes.
 #![tactic(auto)]
@@ -13,13 +13,13 @@
 mod fault;
 mod input_fault;
 mod refused;
-mod say;
+mod saying;
 mod snapshot_file;
 mod status;
 
 pub use fault::Fault;
 pub use input_fault::{InputFault, say_input_fault};
 pub use refused::{put_refused, refused_text};
-pub use say::{say, say_fault, say_memory};
+pub use saying::{say, say_fault, say_memory};
 pub use snapshot_file::{read_kept, read_snapshot};
 pub use status::Status;

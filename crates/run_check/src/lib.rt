@@ -5,11 +5,11 @@
 //!
 //! - `standing`: all findings that stand, written one after the other
 //! - `feeds`: several files
-//! - `check`: the command, carried out
+//! - `command`: the command, carried out
 #![tactic(auto)]
 
-mod check;
+mod command;
 mod feeds;
 mod standing;
 
-pub use check::check;
+pub use command::check;

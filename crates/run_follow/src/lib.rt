@@ -3,10 +3,10 @@
 //! `specs/Follow.antt` says what it writes and answers, and which files it reads.
 //!
 //! - `list_fault`: what is told of a list that isn't read
-//! - `follow`: the command, carried out
+//! - `command`: the command, carried out
 #![tactic(auto)]
 
-mod follow;
+mod command;
 mod list_fault;
 
-pub use follow::follow;
+pub use command::follow;

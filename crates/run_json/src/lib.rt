@@ -2,15 +2,15 @@
 //!
 //! `specs/Reports.antt` says what each writes and answers.
 //!
-//! - `show`: the form of the snapshot in a file
+//! - `showing`: the form of the snapshot in a file
 //! - `json_input_fault`, `json_input`: the snapshot that a JSON file says, or why it isn't had
-//! - `encode`: the canonical bytes of the snapshot that a JSON file says
+//! - `encoding`: the canonical bytes of the snapshot that a JSON file says
 #![tactic(auto)]
 
-mod encode;
+mod encoding;
 mod json_input;
 mod json_input_fault;
-mod show;
+mod showing;
 
-pub use encode::encode;
-pub use show::show;
+pub use encoding::encode;
+pub use showing::show;

@@ -6,13 +6,13 @@
 //! - `sending`: lines that are held back until they fill a piece
 //! - `findings`: those of a snapshot, sent by all rules, one entity after the other
 //! - `report`: the report on a snapshot that was accepted or refused
-//! - `report_file`: that on the snapshot in a file, carried out
+//! - `in_file`: that on the snapshot in a file, carried out
 #![tactic(auto)]
 
 mod findings;
 mod report;
-mod report_file;
+mod in_file;
 mod sending;
 
-pub use report_file::report_file;
+pub use in_file::report_file;
 pub use sending::send_piece;

@@ -27,7 +27,7 @@ use Rattle.timetable.specs.declared.timetable.Timetable.{Timetable}
 use Rattle.run_timetable.specs.Timetables.{refusal_text, tables_had}
 use Rattle.run_trial.specs.Tried.{trial_folder, IsSummedUp, added, deltas, history_report, history_text, numbered, summary_text, sums_of, sums_over, trial_report}
 use Rattle.run_base.specs.Report.{refused_input}
-use Rattle.run_timetable.proofs.Loading.{folder_given, report_given, report_refused}
+use Rattle.run_timetable.proofs.GivenTable.{folder_given, report_given, report_refused}
 
 -- ---- sums
 -- what one snapshot more changes stands behind what those before it changed

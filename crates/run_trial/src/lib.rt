@@ -4,11 +4,11 @@
 //!
 //! - `sums`: sums over what snapshots change
 //! - `summing`: the snapshots, taken one after the other
-//! - `trial`: the command, carried out
+//! - `command`: the command, carried out
 #![tactic(auto)]
 
 mod summing;
 mod sums;
-mod trial;
+mod command;
 
-pub use trial::trial;
+pub use command::trial;

@@ -8,7 +8,7 @@ use Rattle.run_base.specs.Inputs.{FailsAt}
 use Rattle.run_base.specs.Report.{refused_input}
 use Rattle.run_base.proofs.Told.{error_text_more}
 use Rattle.run_timetable.specs.Timetables.{IsTableFile}
-use Rattle.run_timetable.proofs.Loading.{load_input}
+use Rattle.run_timetable.proofs.GivenTable.{load_input}
 use Rattle.run_base.proofs.Chosen.{one_input, one_within, rose_later}
 use Rattle.run_predict.proofs.Predicting.{load_refused, loaded}
 use Rattle.run_predict.proofs.prediction.predict.Goals as goal

@@ -1,0 +1,24 @@
+use Rattle.std.proofs.Common.{inl, inr}
+use Rattle.std.specs.List.{Contains}
+use Rattle.std.specs.Option.{option_copied}
+use Rattle.rt_outside.specs.Store.{contents_told}
+use Rattle.run_base.proofs.Chosen.{carried_within, rose_later}
+use Rattle.run_timetable.specs.Timetables.{tables_had, with_timetable}
+use Rattle.run_timetable.proofs.GivenTable.{carried_unloaded, report_given}
+use Rattle.run_check.specs.Check.{IsInput, files_report}
+use Rattle.run_check.proofs.command.check.Goals as goal
+
+pub returns-in-Ok-clause-carried : goal.returns-in-Ok-clause-carried
+returns-in-Ok-clause-carried g c =
+    let names = c.args.names.now in
+    let folder = option_copied c.args.folder in
+    carried_within (files_report (tables_had c.in-Ok.timetable) c.args.moment names) (with_timetable (λ t. files_report t c.args.moment names) folder) (Contains names) (IsInput folder names)
+    _ _ _ _ c.check_files.result (λ name is. inl is) _ (rose_later _ _ _ c.load_given.ensures.later) c.load_given.ensures.contents
+    (report_given (λ t. files_report t c.args.moment names) folder (contents_told (g.F.Files.state c.args.files.now).told) c.in-Ok.timetable c.load_given.ensures.given) c.check_files.ensures.carried
+
+pub returns-in-Err-clause-carried : goal.returns-in-Err-clause-carried
+returns-in-Err-clause-carried g c =
+    let names = c.args.names.now in
+    let folder = option_copied c.args.folder in
+    carried_unloaded (λ t. files_report t c.args.moment names) folder (IsInput folder names) _ _ _ _ _ c.say_input_fault.result c.in-Err.fault (λ name is. inr is) c.in-Err.ensures.refused
+    c.say_input_fault.ensures

@@ -1,0 +1,26 @@
+use Rattle.std.proofs.Common.{inr, None}
+use Rattle.std.specs.Option.{option_copied}
+use Rattle.rt_outside.specs.Store.{contents_told}
+use Rattle.run_timetable.specs.Timetables.{tables_had, with_timetable}
+use Rattle.run_timetable.proofs.GivenTable.{carried_unloaded, report_given}
+use Rattle.run_base.proofs.Chosen.{carried_within, rose_later}
+use Rattle.run_follow.specs.Follow.{IsFollowed, list_report}
+use Rattle.run_follow.proofs.Listed.{followed_more}
+use Rattle.run_follow.proofs.command.follow.Goals as goal
+
+pub returns-in-Ok : goal.returns-in-Ok
+returns-in-Ok g c =
+    let list = c.args.list.now in
+    let folder = option_copied c.args.folder in
+    let told = contents_told (g.F.Files.state c.args.files.now).told in
+    let mid = contents_told (g.F.Files.state c.load_given.new.files).told in
+    carried_within (list_report list (tables_had c.in-Ok.timetable)) (with_timetable (list_report list) folder) (IsFollowed mid None list) (IsFollowed told folder list)
+    _ _ _ _ c.follow_list.result (followed_more mid told folder list c.load_given.ensures.contents) _ (rose_later _ _ _ c.load_given.ensures.later) c.load_given.ensures.contents
+    (report_given (list_report list) folder told c.in-Ok.timetable c.load_given.ensures.given) c.follow_list.ensures
+
+pub returns-in-Err : goal.returns-in-Err
+returns-in-Err g c =
+    let list = c.args.list.now in
+    let folder = option_copied c.args.folder in
+    let told = contents_told (g.F.Files.state c.args.files.now).told in
+    carried_unloaded (list_report list) folder (IsFollowed told folder list) _ _ _ _ _ c.say_input_fault.result c.in-Err.fault (λ name is. inr (inr is)) c.in-Err.ensures.refused c.say_input_fault.ensures

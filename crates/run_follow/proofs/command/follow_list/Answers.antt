@@ -1,0 +1,37 @@
+use Rattle.std.proofs.Common.{◌≡◌, inl, inr, refl, rules, subst, None, Err}
+use Rattle.std.specs.FinMap.{get}
+use Rattle.std.specs.List.{Contains}
+use Rattle.rt_outside.specs.Store.{contents_told}
+use Rattle.feed_list.specs.Lists.{list_in}
+use Rattle.rule_core.specs.Answered.{tables_of}
+use Rattle.run_base.specs.Carried.{CarriesOut, exactly}
+use Rattle.run_rows.specs.declared.telling.Telling.TheVariants.{Changes}
+use Rattle.run_follow.specs.Follow.{IsFollowed, list_report, followed}
+use Rattle.run_rows.specs.Rows.{paths_of, all_rows}
+use Rattle.run_base.specs.Outside.{outside}
+use Rattle.run_base.proofs.Chosen.{carried_within}
+use Rattle.run_follow.proofs.Listed.{carried_list, rows_listed}
+use Rattle.run_base.proofs.Chosen.{each, rose_later}
+use Rattle.run_follow.proofs.command.follow_list.Goals as goal
+
+pub returns-in-Ok : goal.returns-in-Ok
+returns-in-Ok g c =
+    let list = c.args.list.now in
+    let t = tables_of c.args.timetable in
+    let told = contents_told (g.F.Files.state c.args.files.now).told in
+    carried_within (λ held. followed (all_rows Changes t held c.in-Ok.rows)) (list_report list t) (Contains (paths_of c.in-Ok.rows)) (IsFollowed told None list)
+    (g.F.Files.state c.read_list.new.files) (g.S.Sink.state c.args.out.now) (g.E.Sink.state c.args.err.now)
+    (outside (g.F.Files.state c.follow_listed.new.files) (g.S.Sink.state c.follow_listed.new.out) (g.E.Sink.state c.follow_listed.new.err)) c.follow_listed.result
+    (λ name is. inr (inl (record { rows = c.in-Ok.rows; rows_are = c.in-Ok.ensures.ok; there = is }))) (g.F.Files.state c.args.files.now)
+    (rose_later _ _ _ c.read_list.ensures.later) c.read_list.ensures.contents (rows_listed told t list c.in-Ok.rows c.in-Ok.ensures.ok)
+    (subst (λ rows. CarriesOut (exactly (λ held. followed (all_rows Changes t held rows))) (Contains (paths_of rows))
+    (outside (g.F.Files.state c.read_list.new.files) (g.S.Sink.state c.args.out.now) (g.E.Sink.state c.args.err.now))
+    (outside (g.F.Files.state c.follow_listed.new.files) (g.S.Sink.state c.follow_listed.new.out) (g.E.Sink.state c.follow_listed.new.err)) c.follow_listed.result) c.as_slice.ensures c.follow_listed.ensures)
+
+pub returns-in-Err : goal.returns-in-Err
+returns-in-Err g c =
+    let list = c.args.list.now in
+    let told = contents_told (g.F.Files.state c.args.files.now).told in
+    carried_list (tables_of c.args.timetable) _ _ _ _ _ c.say_input_fault.result list (IsFollowed told None list) c.in-Err.fault c.told_as.result (inl refl)
+    (λ read memory. each told _ (λ held. list_in (get held list) ≡ Err c.in-Err.fault) (λ held f. f read memory) c.in-Err.ensures.err)
+    (λ e. c.in-Err.ensures.cause (search rules)) c.in-Err.ensures.asked c.told_as.ensures c.say_input_fault.ensures

@@ -1,0 +1,17 @@
+use Rattle.std.proofs.Common.{refl, arith, rules, ◌∷◌, []}
+use Rattle.std.specs.List.{Contains}
+use Rattle.run_base.specs.Report.{file_report}
+use Rattle.run_base.proofs.Carried.{carried_fault}
+use Rattle.run_base.proofs.Chosen.{carried_put, file_silent}
+use Rattle.run_json.specs.Reports.{shown_report}
+use Rattle.run_json.proofs.showing.show.Goals as goal
+
+pub returns-in-Ok : goal.returns-in-Ok
+returns-in-Ok g c =
+    carried_put (file_report shown_report c.args.file.now) (Contains (c.args.file.now ∷ [])) _ _ c.in-Ok.status c.in-Ok.ensures.carried_out refl
+    (file_silent shown_report (λ bytes. refl) c.args.file.now) c.in-Ok.ensures.whole
+
+pub returns-in-Err : goal.returns-in-Err
+returns-in-Err g c =
+    carried_fault (file_report shown_report c.args.file.now) _ _ _ c.say_fault.result c.in-Err.ensures.text c.in-Err.fault c.args.file.now (0, omega arith, refl)
+    (λ e. c.in-Err.ensures.read (search rules)) (λ e. c.in-Err.ensures.write (search rules)) c.in-Err.ensures.asked c.say_fault.ensures
