@@ -47,6 +47,10 @@ at_limit None now splitter read full = tt
 at_limit (Some first) None splitter read full = absurd (cc read.2)
 at_limit (Some first) (Some now) splitter read full = (read.0, read.1, inr (left now, left_is first now read.0 read.2, full))
 
+-- more than the limit
+pub past : (n : ℕ) → nat_lt snapshot_limit n ≡ true → snapshot_limit < n
+past n h = grind (arith, nat_tests)
+
 -- ---- what they make
 too_large : (bytes : List ℕ) → snapshot_limit < length bytes → unless_faulty bytes (refusal bytes) ≡ Err (refused snapshot_limit TooLarge)
 too_large bytes l = ap (unless_faulty bytes) (large_refusal bytes l)
