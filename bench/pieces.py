@@ -17,7 +17,8 @@ def refused(folder):
     with open(small, "wb") as file:
         file.write(HEADER)
     with open(large, "wb") as file:
-        file.write(HEADER + b"\x7c" + bytes(REST))
+        file.write(HEADER + b"\x7c")
+        file.truncate(len(HEADER) + 1 + REST)
     for name, path in (("a header alone", small), ("60 MiB, refused at byte 15", large)):
         seconds, peak, status = best([program(), "check", path])
         print(f"{name:34} {seconds:8.3f} s {peak:8.1f} MiB   status {status}")
