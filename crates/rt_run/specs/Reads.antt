@@ -1,5 +1,5 @@
 -- Which files a request reads, which counters it moves, and how a run without a request ends. (This profile.)
-use Rattle.std.specs.Prelude.{◌≡◌, ℕ, List, [], ◌∷◌, ◌⊎◌, length, Option, Some, None, Contains, ⊤, ⊥}
+use Rattle.std.specs.Prelude.{◌≡◌, ℕ, List, [], ◌∷◌, ◌⊎◌, length, Option, Some, None, Contains, ⊤}
 use Rattle.rt_outside.specs.Store.{Contents}
 use Rattle.run_words.specs.declared.request.Request.{Request}
 use Rattle.run_words.specs.declared.request.Request.TheVariants.{Check, Follow, Predict, Show, Encode, Trial}

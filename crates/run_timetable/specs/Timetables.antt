@@ -1,5 +1,5 @@
 -- The timetable that a command asks for, what is told of one that is refused, and a report with it. (This profile.)
-use Rattle.std.specs.Prelude.{◌≡◌, ℕ, List, [], ◌++◌, ⊥, codes, decimal, if◌then◌else◌, Option, Some, None, IfSome, Result, Ok, Err}
+use Rattle.std.specs.Prelude.{◌≡◌, ℕ, List, [], ◌++◌, codes, decimal, if◌then◌else◌, Option, Some, None, IfSome, Result, Ok, Err}
 use Rattle.rt_outside.specs.Store.{Contents}
 use Rattle.timetable.specs.Columns.{name_of}
 use Rattle.timetable.specs.Folders.{path}
