@@ -3,7 +3,7 @@ use Rattle.std.specs.Prelude.{◌≡◌, ◌++◌, ℕ, Bool, ◌||◌, List, Op
 use Rattle.std.specs.List.{list_any, flat_map}
 use Rattle.std.specs.Io.KnownBytes.{append_known}
 use Rattle.rt_outside.specs.Sink.{AppendsPrefix}
-use Rattle.rule_core.specs.declared.rule.RuleId.{RuleId}
+use Rattle.rule_table.specs.declared.rule.RuleId.{RuleId}
 use Rattle.rule_core.specs.Rules.{level}
 use Rattle.rule_core.specs.Found.{Found}
 use Rattle.rule_core.specs.Standing.{Standing, Spot}

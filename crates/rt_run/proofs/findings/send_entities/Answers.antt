@@ -6,7 +6,7 @@ use Rattle.rule_core.specs.Answered.{Heads, tables_of}
 use Rattle.rule_core.specs.Found.{Found}
 use Rattle.judging.specs.Whole.{entity_found}
 use Rattle.judging.specs.Judged.{first_heads, found_at_seats}
-use Rattle.kept_rows.specs.Places.{AreWithin, entity_at, placed}
+use Rattle.snapshot_keys.specs.Places.{AreWithin, entity_at, placed}
 use Rattle.rt_run.proofs.Sent.{Left, left_all, left_next, left_cut, at_err}
 use Rattle.rt_run.proofs.findings.send_entities.Goals as goal
 

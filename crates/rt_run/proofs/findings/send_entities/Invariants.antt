@@ -2,7 +2,7 @@ use Rattle.std.proofs.Common.{◌≤◌}
 use Rattle.feed_values.specs.Views.{feed_header_value}
 use Rattle.rule_core.specs.Answered.{tables_of}
 use Rattle.judging.specs.Judged.{first_heads, found_at_seats}
-use Rattle.kept_rows.specs.Places.{AreWithin, placed}
+use Rattle.snapshot_keys.specs.Places.{AreWithin, placed}
 use Rattle.rt_run.proofs.Sent.{Left}
 use Rattle.rt_run.proofs.findings.send_entities.Given as goal
 

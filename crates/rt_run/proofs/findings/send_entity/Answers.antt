@@ -6,8 +6,8 @@ use Rattle.rule_core.specs.Found.{Found}
 use Rattle.rule_core.specs.Marked.{marked}
 use Rattle.judging.specs.Judged.{first_answer, first_heads}
 use Rattle.judging.specs.Whole.{entity_found}
-use Rattle.kept_rows.specs.Places.{entity_at}
-use Rattle.kept_rows.proofs.OneMore.{read_payload}
+use Rattle.snapshot_keys.specs.Places.{entity_at}
+use Rattle.snapshot_keys.proofs.OneMore.{read_payload}
 use Rattle.rt_run.specs.Findings.{Sends, SendsPart}
 use Rattle.rt_run.proofs.Sent.{at_err, left_all, left_part, more_ok, more_err}
 use Rattle.rt_run.proofs.findings.send_entity.Goals as goal
