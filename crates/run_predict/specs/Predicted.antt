@@ -12,7 +12,7 @@ use Rattle.feed_values.specs.declared.entity.Entity.{Entity}
 use Rattle.feed_values.specs.declared.feed_message.FeedMessage.{FeedMessage}
 use Rattle.feed_values.specs.declared.trip_update.TripUpdate.{TripUpdate}
 use Rattle.jiff_tz.specs.declared.timezone.TimeZone.{TimeZone as PlainZone}
-use Rattle.rule_table.specs.Counts.{count_id}
+use Rattle.judging.specs.Seats.{count_id}
 use Rattle.propagation.specs.Predictions.{IsPrediction}
 use Rattle.propagation.specs.declared.predictions.Predictions.{Predictions}
 use Rattle.prediction_table.specs.Predictions.{AreRows, head_text}
