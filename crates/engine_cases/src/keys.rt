@@ -1,7 +1,7 @@
 //! Keys of entities in text.
 
 use feed_values::{Items, Text};
-use rule_core::EntityKey;
+use rule_table::EntityKey;
 use std::alloc::{AllocError, Global};
 
 /// A text of its own.

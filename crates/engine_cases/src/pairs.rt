@@ -4,7 +4,7 @@ use crate::keys::{key_text, keys_text, text_of};
 use cases::{say, word, word_list};
 use feed_values::Text;
 use pairing_rules::{PairIndex, PairRow};
-use rule_core::{Kind, PairView};
+use rule_table::{Kind, PairView};
 use std::alloc::{AllocError, Global};
 use std::mem;
 

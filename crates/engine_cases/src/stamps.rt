@@ -3,7 +3,7 @@
 use crate::keys::{keys_text, text_of};
 use cases::{number, say, word};
 use history_rules::StampIndex;
-use rule_core::EntityKey;
+use rule_table::EntityKey;
 use std::alloc::{AllocError, Global};
 use std::mem;
 

@@ -3,7 +3,7 @@
 use cases::say;
 use feed_values::{CellRef, Path};
 use follow_engine::{Closed, Delta, Engine, Opened};
-use rule_core::{Fact, Finding, Place, cell_of};
+use rule_table::{Fact, Finding, Place, cell_of};
 use std::alloc::{AllocError, Global};
 
 fn place_text(alloc: Global, place: &Place) -> Result<String, AllocError> {

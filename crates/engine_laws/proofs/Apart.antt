@@ -6,16 +6,16 @@ use Rattle.std.proofs.lemmas.List.{map-append}
 use Rattle.std.proofs.lemmas.List.Elements.{filter-append}
 use Rattle.std.proofs.lemmas.Bool.Decides.{nat_tests}
 use borrow.Author.Tests.{eqb-true}
-use Rattle.rule_core.specs.declared.key.EntityKey.{EntityKey}
-use Rattle.rule_core.specs.declared.place.Place.{Place}
-use Rattle.rule_core.specs.declared.place.Place.TheVariants as place
-use Rattle.rule_core.specs.Order.{same_key}
-use Rattle.rule_core.specs.Asked.{feed_of}
-use Rattle.rule_core.specs.Found.{Found}
-use Rattle.rule_core.specs.Groups.{Each, IsOn, IsUnder}
-use Rattle.rule_core.specs.GroupLaws.{each_append, each_weaken}
-use Rattle.rule_core.specs.History.{below, feed_limit}
-use Rattle.rule_core.specs.Standing.{Standing}
+use Rattle.rule_table.specs.declared.key.EntityKey.{EntityKey}
+use Rattle.rule_table.specs.declared.place.Place.{Place}
+use Rattle.rule_table.specs.declared.place.Place.TheVariants as place
+use Rattle.rule_table.specs.Order.{same_key}
+use Rattle.rule_table.specs.Asked.{feed_of}
+use Rattle.rule_table.specs.Found.{Found}
+use Rattle.rule_table.specs.Groups.{Each, IsOn, IsUnder}
+use Rattle.rule_table.specs.GroupLaws.{each_append, each_weaken}
+use Rattle.rule_history.specs.History.{below, feed_limit}
+use Rattle.rule_history.specs.Standing.{Standing}
 use Rattle.engine_laws.specs.HeldFeeds.{KeyedLists, HeldFeed, AreUnder, AreApart, IsOwn, list_under, feed_list, joined}
 use Rattle.engine_laws.specs.Standings.{findings_of}
 use Rattle.engine_laws.proofs.Spots.{is_false, key_is, key_other, having}

@@ -16,30 +16,32 @@ use Rattle.feed_values.specs.Schema.{Value}
 use Rattle.feed_values.specs.Messages.{entity}
 use Rattle.feed_values.specs.Snapshot.{entity_of}
 use Rattle.std.proofs.lemmas.List.Folds.{flat_map-map}
+use Rattle.std.proofs.lemmas.Bool.{and_parts}
 use Rattle.timetable.specs.Timetables.{Tables}
-use Rattle.rule_core.specs.declared.rule.RuleId.{RuleId}
-use Rattle.rule_core.specs.declared.rule.RuleId.TheVariants.{E001}
-use Rattle.rule_core.specs.declared.ask.Ask.{Ask}
-use Rattle.rule_core.specs.declared.fact.Fact.{Fact}
-use Rattle.rule_core.specs.declared.key.EntityKey.{EntityKey}
-use Rattle.rule_core.specs.declared.place.Place.{Place}
-use Rattle.rule_core.specs.declared.place.Place.TheVariants as place
-use Rattle.rule_core.specs.Rules.{rule_number, same_rule}
-use Rattle.rule_core.specs.Table.{all_rules, slots_of, head_slots_of, first_of}
-use Rattle.rule_core.specs.Rows.{cites_at, test_at}
-use Rattle.rule_core.specs.Order.{slot_number, key_cmp, same_key, same_path, same_place}
-use Rattle.rule_core.specs.Asked.{feed_of, slot_of, index_of}
-use Rattle.rule_core.specs.Cited.{cited, values_of}
-use Rattle.rule_core.specs.Passed.{passes}
-use Rattle.rule_core.specs.Found.{Found}
-use Rattle.rule_core.specs.Judged.{found_of, found_at, found_below, found_in, found_by, found_all, found_on, head_found_by, head_found_all, places_at}
-use Rattle.rule_core.specs.Groups.{Each, IsOn, IsUnder}
-use Rattle.rule_core.specs.GroupLaws.{each_append, each_weaken, and_true, rise}
-use Rattle.rule_core.specs.Standing.{same_spot}
-use Rattle.rule_core.specs.Pairs.{PairRow}
-use Rattle.rule_core.specs.History.{Snapshot, Keyed, now, before, entities_in, feed_limit}
-use Rattle.rule_core.specs.Answered.{heads_answer, heads_of, rows}
-use Rattle.rule_core.specs.Findings.{findings}
+use Rattle.rule_table.specs.declared.rule.RuleId.{RuleId}
+use Rattle.rule_table.specs.declared.rule.RuleId.TheVariants.{E001}
+use Rattle.rule_table.specs.declared.ask.Ask.{Ask}
+use Rattle.rule_table.specs.declared.fact.Fact.{Fact}
+use Rattle.rule_table.specs.declared.key.EntityKey.{EntityKey}
+use Rattle.rule_table.specs.declared.place.Place.{Place}
+use Rattle.rule_table.specs.declared.place.Place.TheVariants as place
+use Rattle.rule_table.specs.Rules.{rule_number, same_rule}
+use Rattle.rule_table.specs.Table.{all_rules, slots_of, head_slots_of, first_of}
+use Rattle.rule_table.specs.Rows.{cites_at, test_at}
+use Rattle.rule_table.specs.Order.{slot_number, key_cmp, same_key, same_path, same_place}
+use Rattle.rule_table.specs.Asked.{feed_of, slot_of, index_of}
+use Rattle.rule_table.specs.Cited.{cited, values_of}
+use Rattle.rule_table.specs.Passed.{passes}
+use Rattle.rule_table.specs.Found.{Found}
+use Rattle.rule_table.specs.Judged.{found_of, found_at, found_below, found_in, found_by, found_all, found_on, head_found_by, head_found_all, places_at}
+use Rattle.rule_table.specs.Groups.{Each, IsOn, IsUnder}
+use Rattle.rule_table.specs.GroupLaws.{each_append, each_weaken, rise}
+use Rattle.rule_history.specs.Standing.{same_spot}
+use Rattle.rule_table.specs.Pairs.{PairRow}
+use Rattle.rule_history.specs.History.{Snapshot, Keyed, now, before, entities_in, feed_limit}
+use Rattle.rule_table.specs.Answers.{heads_answer}
+use Rattle.rule_history.specs.Answered.{heads_of, rows}
+use Rattle.rule_history.specs.Findings.{findings}
 use Rattle.engine_laws.specs.Order.{holder_cmp, found_cmp, Rises}
 use Rattle.engine_laws.specs.HeldFeeds.{head_found, held_answer, entity_found, entities_found, feed_found}
 use Rattle.engine_laws.proofs.Apart.{on_at}
@@ -165,7 +167,7 @@ module _ (rule : RuleId) (answer : Ask → Option CellValue) (key : EntityKey) w
   in_in : (e : Value entity) (n : ℕ) (slots : List Slot) → rise n slots ≡ true → Each (IsIn rule key (λ p. n ≤ slot_number p.slot)) (found_in rule answer key e slots) × Rises found_cmp (found_in rule answer key e slots)
   in_in e n [] h = (tt, tt)
   in_in e n (s ∷ slots) h =
-      let r = and_true (nat_le n (slot_number s)) (rise (slot_number s + 1) slots) h in
+      let r = and_parts (nat_le n (slot_number s)) (rise (slot_number s + 1) slots) h in
       let from : n ≤ slot_number s = leb-true n (slot_number s) r.0 in
       let one = below_in s (places_at e s) in
       let rest = in_in e (slot_number s + 1) slots r.1 in (
@@ -248,8 +250,8 @@ rule_then P one n r xs ys le own up rest more = (
 all_by : (answer : Ask → Option CellValue) (key : EntityKey) (e : Value entity) (n : ℕ) (rules : List RuleId) → are_sorted slots_of n rules ≡ true → Each (IsBy n (IsUnder key)) (found_all rules answer key e) × Rises found_cmp (found_all rules answer key e)
 all_by answer key e n [] h = (tt, tt)
 all_by answer key e n (r ∷ rules) h =
-    let p = and_true (nat_le n (rule_number r)) (rise 0 (slots_of r) && are_sorted slots_of (rule_number r + 1) rules) h in
-    let q = and_true (rise 0 (slots_of r)) (are_sorted slots_of (rule_number r + 1) rules) p.1 in
+    let p = and_parts (nat_le n (rule_number r)) (rise 0 (slots_of r) && are_sorted slots_of (rule_number r + 1) rules) h in
+    let q = and_parts (rise 0 (slots_of r)) (are_sorted slots_of (rule_number r + 1) rules) p.1 in
     let one = in_in r answer key e 0 (slots_of r) q.0 in
     let rest = all_by answer key e (rule_number r + 1) rules q.1 in
     rule_then (IsUnder key) (one_key key) n r (found_by r answer key e) (found_all rules answer key e) (leb-true n (rule_number r) p.0)
@@ -266,7 +268,7 @@ record IsOnSlot (rule : RuleId) (f n : ℕ) (x : Found) : Type 0 where
 on_on : (rule : RuleId) (answer : Ask → Option CellValue) (f n : ℕ) (slots : List Slot) → rise n slots ≡ true → Each (IsOnSlot rule f n) (found_on rule answer f slots) × Rises found_cmp (found_on rule answer f slots)
 on_on rule answer f n [] h = (tt, tt)
 on_on rule answer f n (s ∷ slots) h =
-    let r = and_true (nat_le n (slot_number s)) (rise (slot_number s + 1) slots) h in
+    let r = and_parts (nat_le n (slot_number s)) (rise (slot_number s + 1) slots) h in
     let one = at_place rule answer (place.Head f s) in
     let rest = on_on rule answer f (slot_number s + 1) slots r.1 in (
       each_append (IsOnSlot rule f n) (found_at rule answer (place.Head f s)) (found_on rule answer f slots)
@@ -288,8 +290,8 @@ on_on rule answer f n (s ∷ slots) h =
 heads_by : (answer : Ask → Option CellValue) (f n : ℕ) (rules : List RuleId) → are_sorted head_slots_of n rules ≡ true → Each (IsBy n (IsOn f)) (head_found_all rules answer f) × Rises found_cmp (head_found_all rules answer f)
 heads_by answer f n [] h = (tt, tt)
 heads_by answer f n (r ∷ rules) h =
-    let p = and_true (nat_le n (rule_number r)) (rise 0 (head_slots_of r) && are_sorted head_slots_of (rule_number r + 1) rules) h in
-    let q = and_true (rise 0 (head_slots_of r)) (are_sorted head_slots_of (rule_number r + 1) rules) p.1 in
+    let p = and_parts (nat_le n (rule_number r)) (rise 0 (head_slots_of r) && are_sorted head_slots_of (rule_number r + 1) rules) h in
+    let q = and_parts (rise 0 (head_slots_of r)) (are_sorted head_slots_of (rule_number r + 1) rules) p.1 in
     let one = on_on r answer f 0 (head_slots_of r) q.0 in
     let rest = heads_by answer f (rule_number r + 1) rules q.1 in
     rule_then (IsOn f) (one_head f) n r (head_found_by r answer f) (head_found_all rules answer f) (leb-true n (rule_number r) p.0)
@@ -396,7 +398,7 @@ findings_ascend t h =
 -- ---- rules at places that are in order are not the same
 pub spot_equal : (f g : Found) → same_spot f g ≡ true → found_cmp f g ≡ Equal
 spot_equal f g h =
-    let p = and_true (same_rule f.rule g.rule) (same_place f.place g.place) h in
+    let p = and_parts (same_rule f.rule g.rule) (same_place f.place g.place) h in
     at f.place g.place p.1 (nat_same (rule_number f.rule) (rule_number g.rule) (eqb-true (rule_number f.rule) (rule_number g.rule) p.0))
   where
     slots : (s : Slot) (i : ℕ) (t : Slot) (j : ℕ) → (slot_number s == slot_number t) ≡ true → (i == j) ≡ true → slots_cmp s i t j ≡ Equal
@@ -407,11 +409,11 @@ spot_equal f g h =
     at (place.Head n s) (place.Entity l q) e r = cc
     at (place.Entity k p) (place.Head n s) e r = cc
     at (place.Head n s) (place.Head m u) e r =
-        let c = and_true (n == m) (slot_number s == slot_number u) e in
+        let c = and_parts (n == m) (slot_number s == slot_number u) e in
         equal_then (nat_cmp n m) _ _ (nat_same n m (eqb-true n m c.0)) (equal_then (nat_cmp (rule_number f.rule) (rule_number g.rule)) _ _ r (slots s 0 u 0 c.1 (eq-eqb 0 0 refl)))
     at (place.Entity k p) (place.Entity l q) e r =
-        let c = and_true (same_key k l) (same_path p q) e in
-        let i = and_true (slot_number p.slot == slot_number q.slot) (p.index == q.index) c.1 in
+        let c = and_parts (same_key k l) (same_path p q) e in
+        let i = and_parts (slot_number p.slot == slot_number q.slot) (p.index == q.index) c.1 in
         subst (λ z. ranked (rule_number f.rule) (rule_number g.rule) (place.Entity k p) (place.Entity z q) ≡ Equal) (key_is k l c.0)
         (equal_then (nat_cmp k.feed k.feed) _ _ (nat_self k.feed)
         (equal_then (holder_cmp (place.Entity k p) (place.Entity k q)) _ _ (equal_then (slice_cmp nat_cmp k.id k.id) _ _ (text_self k.id) (nat_self k.occurrence))

@@ -1,19 +1,19 @@
 -- The computed list and delta are those of the relations, and there are no others.
-use Rattle.std.specs.Prelude.{◌≡◌, ℕ, zero, suc, ◌+◌, ◌<◌, ◌≤◌, ◌==◌, ◌&&◌, ◌||◌, Bool, true, false, cond, List, [], ◌∷◌, ◌++◌, length, take, map, Option, Some, None, refl}
+use Rattle.std.specs.Prelude.{◌≡◌, ℕ, zero, suc, ◌+◌, ◌<◌, ◌≤◌, ◌==◌, ◌||◌, Bool, true, false, cond, List, [], ◌∷◌, ◌++◌, length, map, Option, refl}
 use Rattle.std.proofs.Common.{sym, ◌∙◌, ap, subst, arith, eq-eqb, append-nil}
 use Rattle.std.proofs.lemmas.Bool.Decides.{nat_tests}
 use borrow.Author.Tests.{eqb-true}
 use Rattle.std.proofs.Math.Seq.{take-length}
 use Rattle.feed_values.specs.Snapshot.{entity_payloads}
 use Rattle.timetable.specs.Timetables.{Tables}
-use Rattle.rule_core.specs.Found.{Found}
-use Rattle.rule_core.specs.Groups.{Each}
-use Rattle.rule_core.specs.History.{Snapshot, Keyed, entities, entities_of_snapshot, below, feed_limit}
-use Rattle.rule_core.specs.Findings.{findings}
-use Rattle.rule_core.specs.Changed.{with, count_of, in_tested, in_paired, in_bounded, all_entities}
-use Rattle.rule_core.specs.Standing.{Standing, IsSince, stands, Spot, stands_after, same_spot, opened}
+use Rattle.rule_table.specs.Found.{Found}
+use Rattle.rule_table.specs.Groups.{Each}
+use Rattle.rule_history.specs.History.{Snapshot, Keyed, entities, entities_of_snapshot, below, feed_limit}
+use Rattle.rule_history.specs.Findings.{findings}
+use Rattle.rule_history.specs.Changed.{with, count_of, in_tested, in_paired, in_bounded, all_entities}
+use Rattle.rule_history.specs.Standing.{Standing, IsSince, stands, Spot, stands_after, same_spot, opened}
 use Rattle.engine_laws.specs.Computed.{since_of, standing, standings, delta_after, ListIsComputed, DeltaIsComputed, FirstIsNew}
-use Rattle.engine_laws.specs.Delta.{Delta, IsDelta}
+use Rattle.engine_laws.specs.Delta.{Delta}
 use Rattle.engine_laws.specs.Standings.{findings_of, IsListOf}
 use Rattle.engine_laws.proofs.Longer.{now-same, now-other}
 use Rattle.engine_laws.proofs.Seats as seats

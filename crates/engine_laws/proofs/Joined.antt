@@ -4,12 +4,12 @@ use Rattle.std.specs.List.{flat_map, list_any}
 use Rattle.std.proofs.Common.{sym, ◌∙◌, ap, subst, arith}
 use Rattle.std.proofs.lemmas.List.{map-append}
 use Rattle.std.proofs.lemmas.List.Elements.{filter-append}
-use Rattle.rule_core.specs.declared.key.EntityKey.{EntityKey}
-use Rattle.rule_core.specs.Found.{Found}
-use Rattle.rule_core.specs.Groups.{Each, IsOn, IsUnder}
-use Rattle.rule_core.specs.GroupLaws.{each_weaken}
-use Rattle.rule_core.specs.History.{below, feed_limit}
-use Rattle.rule_core.specs.Standing.{Standing, Spot, same_spot, same_finding, stands, was, opened, closed, spots_of}
+use Rattle.rule_table.specs.declared.key.EntityKey.{EntityKey}
+use Rattle.rule_table.specs.Found.{Found}
+use Rattle.rule_table.specs.Groups.{Each, IsOn, IsUnder}
+use Rattle.rule_table.specs.GroupLaws.{each_weaken}
+use Rattle.rule_history.specs.History.{below, feed_limit}
+use Rattle.rule_history.specs.Standing.{Standing, Spot, same_spot, same_finding, stands, was, opened, closed, spots_of}
 use Rattle.engine_laws.specs.HeldFeeds.{KeyedLists, HeldFeed, AreOn, AreUnder, IsOwn, KeyedFindings, found_list, AreFoundAt, list_under, feed_list, joined, renewed_lists, opened_in, closed_in}
 use Rattle.engine_laws.specs.Standings.{findings_of, since_in, renewed}
 use Rattle.engine_laws.proofs.Apart.{having-header, having-entity}

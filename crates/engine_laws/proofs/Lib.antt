@@ -3,11 +3,10 @@ pub mod Spots
 pub mod Since
 pub mod Apart
 pub mod Joined
-pub mod Sources
+pub mod AtHand
 pub mod Sorted
 pub mod Longer
 pub mod Ascending
-pub mod Groups
 pub mod Next
 pub mod Seats
 pub mod Rows

@@ -7,26 +7,25 @@ use Rattle.std.proofs.lemmas.List.{reverse-append}
 use Rattle.std.proofs.lemmas.List.Elements.{filter-append}
 use Rattle.std.proofs.lemmas.List.Folds.{flat_map-map}
 use borrow.Author.Tests.{eqb-true}
-use Rattle.feed_values.specs.declared.cell_value.CellValue.{CellValue}
-use Rattle.feed_values.specs.declared.slot.Slot.{Slot}
-use Rattle.feed_values.specs.declared.slot.Slot.TheVariants.{S3}
-use Rattle.feed_values.specs.Snapshot.{header_of, timestamp_of, entity_of}
+use Rattle.feed_values.specs.Snapshot.{entity_of}
 use Rattle.timetable.specs.Timetables.{Tables}
-use Rattle.rule_core.specs.declared.ask.Ask.{Ask}
-use Rattle.rule_core.specs.declared.ask.Ask.TheVariants as ask
-use Rattle.rule_core.specs.Table.{all_rules}
-use Rattle.rule_core.specs.Judged.{head_found_all}
-use Rattle.rule_core.specs.Groups.{Each}
-use Rattle.rule_core.specs.GroupLaws.{each_append}
-use Rattle.rule_core.specs.History.{Snapshot, Keyed, recent, first_of, second_of, now, before, entities, entities_in, entities_of_snapshot, below, feed_limit}
-use Rattle.rule_core.specs.Answered.{Heads, heads_answer, heads_of, entity_answer, limit_answer, timetable_answer, rows_answer, rows, payload_under, feed_answer, answer_under}
-use Rattle.rule_core.specs.Findings.{findings, feed_findings, entity_findings}
-use Rattle.rule_core.specs.Changed.{with}
-use Rattle.engine_laws.specs.Groups.{Source, OfHeads, head_source, cite_source}
+use Rattle.rule_table.specs.declared.ask.Ask.{Ask}
+use Rattle.rule_table.specs.Table.{all_rules}
+use Rattle.rule_table.specs.Sources.{source_of}
+use Rattle.rule_table.specs.Same.{all_same}
+use Rattle.rule_table.specs.SameHeads.{heads_same}
+use Rattle.rule_table.specs.Judged.{head_found_all}
+use Rattle.rule_table.specs.Groups.{Each}
+use Rattle.rule_table.specs.GroupLaws.{each_append}
+use Rattle.rule_history.specs.History.{Snapshot, Keyed, recent, first_of, second_of, now, before, entities, entities_in, entities_of_snapshot, below, feed_limit}
+use Rattle.rule_table.specs.Answers.{heads_answer, entity_answer, rows_answer}
+use Rattle.rule_history.specs.Answered.{heads_of, timetable_answer, rows, payload_under, feed_answer, answer_under}
+use Rattle.rule_history.specs.Findings.{findings, feed_findings, entity_findings}
+use Rattle.rule_history.specs.Changed.{with}
 use Rattle.engine_laws.specs.HeldFeeds.{head_found, held_answer, entity_found, entities_found, feed_found}
 use Rattle.engine_laws.proofs.Lists.{both, below-same, flat-same}
 use Rattle.engine_laws.proofs.Sorted.{entities_rise, entities_feed, apart_rising, found_under}
-use Rattle.engine_laws.proofs.Sources.{source_of, on_header, is_head_ask, all_same, head_same, facts_at_entity, facts_on_header}
+use Rattle.engine_laws.proofs.AtHand.{heads_first, is_held, heads_limits}
 
 -- ---- the last snapshots of a feed
 recent-more : (h : List Snapshot) (s : Snapshot) (f : ℕ) → recent (with h s) f ≡ cond (s.feed == f) (s ∷ recent h f) (recent h f)
@@ -77,28 +76,6 @@ feed-answer : (t : Option Tables) (h : List Snapshot) (f : ℕ) (s : Snapshot) �
     feed_answer t h f a ≡ option_or (heads_answer (heads_of s (before h f)) a) (option_or (timetable_answer t a) (rows_answer (rows h) a))
 feed-answer t h f s is a = ap (option_and_then (λ s. option_or (heads_answer (heads_of s (before h f)) a) (option_or (timetable_answer t a) (rows_answer (rows h) a)))) is
 
-heads_first : (headers : Heads) (x : Option CellValue) (a : Ask) → is_head_ask a ≡ true → option_or (heads_answer headers a) x ≡ heads_answer headers a
-heads_first headers x (ask.HeadNow q) h = refl
-heads_first headers x (ask.HeadBefore q) h = refl
-heads_first headers x ask.Moment h = refl
-heads_first headers x ask.EntitiesChanged h = refl
-heads_first headers x _ h = cc
-
--- what an entity's rules ask is answered without the header before and the entities before
-abbrev is_held : Source → Bool
-is_held OfHeads = false
-is_held _ = true
-
-stamp_alone : (s : Snapshot) (b : Option Snapshot) (q : Slot) → is_held (head_source q) ≡ true → heads_answer (heads_of s b) (ask.HeadNow q) ≡ limit_answer (timestamp_of (header_of s.bytes)) s.moment (ask.HeadNow q)
-stamp_alone s b S3 h = refl
-stamp_alone s b _ h = cc
-
-heads_limits : (s : Snapshot) (b : Option Snapshot) (a : Ask) → is_held (source_of a) ≡ true → heads_answer (heads_of s b) a ≡ limit_answer (timestamp_of (header_of s.bytes)) s.moment a
-heads_limits s b (ask.HeadNow q) h = stamp_alone s b q h
-heads_limits s b (ask.HeadBefore q) h = cc
-heads_limits s b ask.EntitiesChanged h = cc
-heads_limits s b _ h = refl
-
 -- ---- findings by what is at hand
 module _ (t : Option Tables) (h : List Snapshot) (f : ℕ) (s : Snapshot) (is : now h f ≡ Some s) where
   at_feed : s.feed ≡ f
@@ -106,14 +83,12 @@ module _ (t : Option Tables) (h : List Snapshot) (f : ℕ) (s : Snapshot) (is : 
 
   pub head-found : head_found_all all_rules (feed_answer t h f) f ≡ head_found s (before h f)
   head-found =
-      head_same (feed_answer t h f) (heads_answer (heads_of s (before h f))) on_header f
-      (facts_on_header (feed_answer t h f) (heads_answer (heads_of s (before h f))) (λ a m. feed-answer t h f s is a ∙ heads_first (heads_of s (before h f)) _ a m) f) all_rules refl
+      heads_same (feed_answer t h f) (heads_answer (heads_of s (before h f))) (λ a m. feed-answer t h f s is a ∙ heads_first (heads_of s (before h f)) _ a m) f all_rules refl
       ∙ ap (head_found_all all_rules (heads_answer (heads_of s (before h f)))) (sym at_feed)
 
   pub entity-found : (e : Keyed) → e.0.feed ≡ s.feed → payload_under e.0 (entities_in s.feed s.bytes) ≡ Some e.1 → entity_findings t h e ≡ entity_found t (rows h) s e
   entity-found e at under =
-      all_same (answer_under t h e.0) (held_answer t (rows h) s e.0 (entity_of e.1)) (λ c. is_held (cite_source c)) e.0 (entity_of e.1)
-      (λ p. facts_at_entity (answer_under t h e.0) (held_answer t (rows h) s e.0 (entity_of e.1)) is_held agree e.0 p) all_rules refl
+      all_same is_held (answer_under t h e.0) (held_answer t (rows h) s e.0 (entity_of e.1)) agree all_rules refl e.0 (entity_of e.1)
     where
       there : payload_under e.0 (entities h e.0.feed) ≡ Some e.1
       there = ap (λ g. payload_under e.0 (entities h g)) (at ∙ at_feed) ∙ ap (λ n. payload_under e.0 (entities_of_snapshot n)) is ∙ under

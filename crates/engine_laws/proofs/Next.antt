@@ -4,19 +4,19 @@ use Rattle.std.specs.declared.cmp.Ordering.TheVariants.{Less}
 use Rattle.std.proofs.Common.{sym, ◌∙◌, ap, subst, eq-eqb}
 use borrow.Author.Tests.{eqb-true}
 use Rattle.timetable.specs.Timetables.{Tables}
-use Rattle.rule_core.specs.declared.key.EntityKey.{EntityKey}
-use Rattle.rule_core.specs.declared.place.Place.{Place}
-use Rattle.rule_core.specs.declared.place.Place.TheVariants as place
-use Rattle.rule_core.specs.Order.{same_key}
-use Rattle.rule_core.specs.Found.{Found}
-use Rattle.rule_core.specs.Groups.{Each, IsOn}
-use Rattle.rule_core.specs.GroupLaws.{each_weaken}
-use Rattle.rule_core.specs.Pairs.{PairRow}
-use Rattle.rule_core.specs.History.{Snapshot, Keyed, now, before, entities, entities_in, entities_of_snapshot, below, feed_limit}
-use Rattle.rule_core.specs.Answered.{rows, rows_in}
-use Rattle.rule_core.specs.Findings.{findings}
-use Rattle.rule_core.specs.Changed.{with}
-use Rattle.rule_core.specs.Standing.{Standing, opened, closed}
+use Rattle.rule_table.specs.declared.key.EntityKey.{EntityKey}
+use Rattle.rule_table.specs.declared.place.Place.{Place}
+use Rattle.rule_table.specs.declared.place.Place.TheVariants as place
+use Rattle.rule_table.specs.Order.{same_key}
+use Rattle.rule_table.specs.Found.{Found}
+use Rattle.rule_table.specs.Groups.{Each, IsOn}
+use Rattle.rule_table.specs.GroupLaws.{each_weaken}
+use Rattle.rule_table.specs.Pairs.{PairRow}
+use Rattle.rule_history.specs.History.{Snapshot, Keyed, now, before, entities, entities_in, entities_of_snapshot, below, feed_limit}
+use Rattle.rule_history.specs.Answered.{rows, rows_in}
+use Rattle.rule_history.specs.Findings.{findings}
+use Rattle.rule_history.specs.Changed.{with}
+use Rattle.rule_history.specs.Standing.{Standing, opened, closed}
 use Rattle.engine_laws.specs.Order.{found_cmp, Rises}
 use Rattle.engine_laws.specs.HeldFeeds.{KeyedLists, HeldFeed, AreOn, AreUnder, AreApart, IsLastOf, IsOwn, KeyedFindings, found_list, AreFoundAt, header_found, list_under, joined, rows_held, head_found, entity_found, entities_found, renewed_lists, IsNext, opened_in, closed_in}
 use Rattle.engine_laws.specs.Standings.{findings_of, since_in, renewed, IsListOf}

@@ -4,17 +4,17 @@ use Rattle.std.specs.List.{list_any, find}
 use Rattle.std.proofs.Common.{inl, inr, sym, ◌∙◌, subst, arith}
 use Rattle.std.proofs.Math.Nat.{eq-or-lt_of_le}
 use Rattle.feed_values.specs.Snapshot.{entity_of}
-use Rattle.rule_core.specs.declared.kind.Kind.{Kind}
-use Rattle.rule_core.specs.declared.kind.Kind.TheVariants as kind
-use Rattle.rule_core.specs.declared.key.EntityKey.{EntityKey}
-use Rattle.rule_core.specs.Kinds.{same_kind}
-use Rattle.rule_core.specs.Order.{same_key}
-use Rattle.rule_core.specs.Groups.{Each}
-use Rattle.rule_core.specs.Pairs.{PairRow, rows_of, is_of, any_row, shares}
-use Rattle.rule_core.specs.PairAgree.{Agree, AgreeOnRow}
-use Rattle.rule_core.specs.History.{Snapshot, Keyed, entities, below, feed_limit}
-use Rattle.rule_core.specs.Answered.{rows, rows_in, payload_under}
-use Rattle.rule_core.specs.Changed.{with, changed_rows, other, differ, turns, is_paired}
+use Rattle.rule_table.specs.declared.kind.Kind.{Kind}
+use Rattle.rule_table.specs.declared.kind.Kind.TheVariants as kind
+use Rattle.rule_table.specs.declared.key.EntityKey.{EntityKey}
+use Rattle.rule_table.specs.Kinds.{same_kind}
+use Rattle.rule_table.specs.Order.{same_key}
+use Rattle.rule_table.specs.Groups.{Each}
+use Rattle.rule_table.specs.Pairs.{PairRow, rows_of, is_of, any_row, shares}
+use Rattle.rule_table.specs.PairAgree.{Agree, AgreeOnRow}
+use Rattle.rule_history.specs.History.{Snapshot, Keyed, entities, below, feed_limit}
+use Rattle.rule_history.specs.Answered.{rows, rows_in, payload_under}
+use Rattle.rule_history.specs.Changed.{with, changed_rows, other, differ, turns, is_paired}
 use Rattle.engine_laws.specs.Laws.{PairingStays}
 use Rattle.engine_laws.proofs.Spots.{key_is, or_left, or_right, or_false}
 use Rattle.engine_laws.proofs.Rows.{rows_agree}

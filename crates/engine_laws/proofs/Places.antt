@@ -5,7 +5,7 @@ use Rattle.std.proofs.Common.{inl, inr, sym, ◌∙◌, ap, arith, append-nil, a
 use Rattle.std.proofs.Math.Nat.{eq-or-lt_of_le}
 use Rattle.std.proofs.lemmas.List.{get_or_past}
 use Rattle.timetable.specs.Timetables.{Tables}
-use Rattle.rule_core.specs.History.{below, feed_limit}
+use Rattle.rule_history.specs.History.{below, feed_limit}
 use Rattle.engine_laws.specs.HeldFeeds.{HeldFeed, feed_list, feed_at, data_of, IsJoined}
 
 -- parts past n are empty

@@ -2,20 +2,19 @@
 use Rattle.std.specs.Prelude.{◌≡◌, ℕ, zero, suc, ◌+◌, List, [], ◌∷◌, ◌++◌, Option, Some, None, refl}
 use Rattle.std.proofs.Common.{sym, ◌∙◌, ap, subst, length-append}
 use Rattle.timetable.specs.Timetables.{Tables}
-use Rattle.rule_core.specs.Groups.{Each}
-use Rattle.rule_core.specs.History.{Snapshot, now, below, feed_limit}
-use Rattle.rule_core.specs.Answered.{rows}
-use Rattle.rule_core.specs.Findings.{feed_findings}
-use Rattle.rule_core.specs.Changed.{with}
-use Rattle.rule_core.specs.Standing.{IsSince, stands_after}
+use Rattle.rule_table.specs.Groups.{Each}
+use Rattle.rule_history.specs.History.{Snapshot, now, below, feed_limit}
+use Rattle.rule_history.specs.Answered.{rows}
+use Rattle.rule_history.specs.Findings.{feed_findings}
+use Rattle.rule_history.specs.Changed.{with}
+use Rattle.rule_history.specs.Standing.{IsSince, stands_after}
 use Rattle.engine_laws.proofs.Joined as parts
 use Rattle.engine_laws.proofs.Ascending as ascending
-use Rattle.engine_laws.proofs.Groups as groups
 use Rattle.engine_laws.proofs.Seats as seats
 use Rattle.engine_laws.proofs.Rows as in_rows
 use Rattle.engine_laws.proofs.Places as places
 use Rattle.engine_laws.specs.Delta.{Delta, IsDelta, IsChange}
-use Rattle.engine_laws.specs.Laws.{FindingsRise, FindingsAreParts, GroupsFind, HeadsFind, HeadersStay, NoneIsLost, SinceGoesOn, SinceStarts, ListGoesOn, PartsRenew, PartsOpen, PartsClose, RowsRise, RowsStay, RowsAgree, NothingStands, DataAreJoined, NextIsOwn, NextStands, NextChanges}
+use Rattle.engine_laws.specs.Laws.{FindingsRise, FindingsAreParts, HeadersStay, NoneIsLost, SinceGoesOn, SinceStarts, ListGoesOn, PartsRenew, PartsOpen, PartsClose, RowsRise, RowsStay, RowsAgree, NothingStands, DataAreJoined, NextIsOwn, NextStands, NextChanges}
 use Rattle.engine_laws.specs.HeldFeeds.{HeldFeed, AreOwn, IsJoined, joined, header_found, IsNext}
 use Rattle.engine_laws.specs.Standings.{Held, StandsFor, IsListOf, findings_of}
 use Rattle.engine_laws.proofs.Longer.{now-other, before-other, head-found, findings-parts}
@@ -28,12 +27,6 @@ findings_rise = ascending.findings_ascend
 
 pub findings_are_parts : FindingsAreParts
 findings_are_parts = findings-parts
-
-pub groups_find : GroupsFind
-groups_find = groups.groups_find
-
-pub heads_find : HeadsFind
-heads_find = groups.heads_find
 
 pub headers_stay : HeadersStay
 headers_stay t h s f last other is =

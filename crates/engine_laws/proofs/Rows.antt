@@ -8,22 +8,23 @@ use Rattle.std.specs.Cmp.Lexicographic.{slice_cmp}
 use Rattle.std.proofs.Common.{sym, ◌∙◌, ap, subst}
 use Rattle.std.proofs.lemmas.Cmp.{on_total, then_total}
 use Rattle.std.proofs.lemmas.Slice.Eq.{bytes_eq-Decides}
+use Rattle.std.proofs.lemmas.Bool.{and_parts}
 use Rattle.feed_values.specs.Schema.{Value}
 use Rattle.feed_values.specs.Messages.{trip_update, vehicle_position}
 use Rattle.feed_values.specs.Snapshot.{entity_of}
-use Rattle.rule_core.specs.declared.kind.Kind.{Kind}
-use Rattle.rule_core.specs.declared.kind.Kind.TheVariants as kind
-use Rattle.rule_core.specs.declared.key.EntityKey.{EntityKey}
-use Rattle.rule_core.specs.Kinds.{kind_cmp, kinds_total, same_kind}
-use Rattle.rule_core.specs.Order.{key_cmp, same_key}
-use Rattle.rule_core.specs.Judged.{update_of}
-use Rattle.rule_core.specs.Groups.{Each}
-use Rattle.rule_core.specs.GroupLaws.{each_append, each_weaken, and_true}
-use Rattle.rule_core.specs.Pairs.{PairRow, rows_of, update_rows, vehicle_rows, vehicle_of, is_id, is_of, has_pair, shares_id, shares, same_id, same_row, has_row}
-use Rattle.rule_core.specs.PairAgree.{AgreeOnTrip, AgreeOnVehicle, AgreeOnRow}
-use Rattle.rule_core.specs.History.{Snapshot, Keyed, now, entities, entities_in, entities_of_snapshot, feed_limit}
-use Rattle.rule_core.specs.Answered.{rows, rows_in}
-use Rattle.rule_core.specs.Changed.{rows_without, changed_rows}
+use Rattle.rule_table.specs.declared.kind.Kind.{Kind}
+use Rattle.rule_table.specs.declared.kind.Kind.TheVariants as kind
+use Rattle.rule_table.specs.declared.key.EntityKey.{EntityKey}
+use Rattle.rule_table.specs.Kinds.{kind_cmp, kinds_total, same_kind}
+use Rattle.rule_table.specs.Order.{key_cmp, same_key}
+use Rattle.rule_table.specs.Judged.{update_of}
+use Rattle.rule_table.specs.Groups.{Each}
+use Rattle.rule_table.specs.GroupLaws.{each_append, each_weaken}
+use Rattle.rule_table.specs.Pairs.{PairRow, rows_of, update_rows, vehicle_rows, vehicle_of, is_id, is_of, has_pair, shares_id, shares, same_id, same_row, has_row}
+use Rattle.rule_table.specs.PairAgree.{AgreeOnTrip, AgreeOnVehicle, AgreeOnRow}
+use Rattle.rule_history.specs.History.{Snapshot, Keyed, now, entities, entities_in, entities_of_snapshot, feed_limit}
+use Rattle.rule_history.specs.Answered.{rows, rows_in}
+use Rattle.rule_history.specs.Changed.{rows_without, changed_rows}
 use Rattle.engine_laws.specs.Order.{Rises}
 use Rattle.engine_laws.specs.HeldFeeds.{IsLastOf}
 use Rattle.engine_laws.proofs.Ascending.{nat_less}
@@ -94,9 +95,9 @@ id_is (Some a) (Some b) h = ap Some ((bytes_eq-Decides a b).0 h)
 
 row_is : (a b : PairRow) → same_row a b ≡ true → a ≡ b
 row_is a b h =
-    let p = and_true (same_kind a.kind b.kind && same_key a.key b.key && same_id a.trip b.trip) (same_id a.vehicle b.vehicle) h in
-    let q = and_true (same_kind a.kind b.kind && same_key a.key b.key) (same_id a.trip b.trip) p.0 in
-    let r = and_true (same_kind a.kind b.kind) (same_key a.key b.key) q.0 in
+    let p = and_parts (same_kind a.kind b.kind && same_key a.key b.key && same_id a.trip b.trip) (same_id a.vehicle b.vehicle) h in
+    let q = and_parts (same_kind a.kind b.kind && same_key a.key b.key) (same_id a.trip b.trip) p.0 in
+    let r = and_parts (same_kind a.kind b.kind) (same_key a.key b.key) q.0 in
     ap (λ x. let z : PairRow = record { kind = x; key = a.key; trip = a.trip; vehicle = a.vehicle } in z) (kind_is a.kind b.kind r.0)
     ∙ ap (λ x. let z : PairRow = record { kind = b.kind; key = x; trip = a.trip; vehicle = a.vehicle } in z) (key_is a.key b.key r.1)
     ∙ ap (λ x. let z : PairRow = record { kind = b.kind; key = b.key; trip = x; vehicle = a.vehicle } in z) (id_is a.trip b.trip q.1)
@@ -244,24 +245,24 @@ module _ (u v : List PairRow) (ru : Rises row_cmp u) (rv : Rises row_cmp v) wher
 
   agree_trip : (trip : List ℕ) → list_any (λ c. is_id trip c.trip) (changed_rows u v) ≡ false → AgreeOnTrip u v trip
   agree_trip trip none = record {
-    has = λ k. same_any (λ r. is_of k r && is_id trip r.trip) (λ c. is_id trip c.trip) (λ r h. (and_true (is_of k r) (is_id trip r.trip) h).1) none;
+    has = λ k. same_any (λ r. is_of k r && is_id trip r.trip) (λ c. is_id trip c.trip) (λ r h. (and_parts (is_of k r) (is_id trip r.trip) h).1) none;
     first = λ k. ap (option_and_then (λ r. r.vehicle))
         (same_find (λ r. is_of k r && is_id trip r.trip && is_some r.vehicle) (λ c. is_id trip c.trip)
-        (λ r h. (and_true (is_of k r) (is_id trip r.trip) (and_true (is_of k r && is_id trip r.trip) (is_some r.vehicle) h).0).1) none);
+        (λ r h. (and_parts (is_of k r) (is_id trip r.trip) (and_parts (is_of k r && is_id trip r.trip) (is_some r.vehicle) h).0).1) none);
   }
 
   agree_vehicle : (feed : ℕ) (vehicle : List ℕ) → list_any (λ c. is_id vehicle c.vehicle) (changed_rows u v) ≡ false → AgreeOnVehicle u v feed vehicle
   agree_vehicle feed vehicle none = record {
-    has = λ k. same_any (λ r. is_of k r && is_id vehicle r.vehicle) (λ c. is_id vehicle c.vehicle) (λ r h. (and_true (is_of k r) (is_id vehicle r.vehicle) h).1) none;
+    has = λ k. same_any (λ r. is_of k r && is_id vehicle r.vehicle) (λ c. is_id vehicle c.vehicle) (λ r h. (and_parts (is_of k r) (is_id vehicle r.vehicle) h).1) none;
     first = ap (option_map (λ r. r.key))
         (same_find (λ r. is_of kind.Vehicle r && (r.key.feed == feed) && is_id vehicle r.vehicle) (λ c. is_id vehicle c.vehicle)
-        (λ r h. (and_true (is_of kind.Vehicle r && (r.key.feed == feed)) (is_id vehicle r.vehicle) h).1) none);
+        (λ r h. (and_parts (is_of kind.Vehicle r && (r.key.feed == feed)) (is_id vehicle r.vehicle) h).1) none);
   }
 
   agree_pair : (trip vehicle : List ℕ) → list_any (λ c. is_id trip c.trip) (changed_rows u v) ≡ false → (k : Kind) → has_pair u k trip vehicle ≡ has_pair v k trip vehicle
   agree_pair trip vehicle none k =
       same_any (λ r. is_of k r && is_id trip r.trip && is_id vehicle r.vehicle) (λ c. is_id trip c.trip)
-      (λ r h. (and_true (is_of k r) (is_id trip r.trip) (and_true (is_of k r && is_id trip r.trip) (is_id vehicle r.vehicle) h).0).1) none
+      (λ r h. (and_parts (is_of k r) (is_id trip r.trip) (and_parts (is_of k r && is_id trip r.trip) (is_id vehicle r.vehicle) h).0).1) none
 
 -- what no changed row passes, none passes that passes less
 fewer : (p q : PairRow → Bool) → ((r : PairRow) → q r ≡ true → p r ≡ true) → (u : List PairRow) → list_any p u ≡ false → list_any q u ≡ false

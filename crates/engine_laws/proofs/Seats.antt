@@ -7,12 +7,12 @@ use Rattle.std.specs.Ordering.{match_ordering}
 use Rattle.std.specs.declared.cmp.Ordering.TheVariants as order
 use Rattle.std.specs.BTreeMap.{insert_entry}
 use Rattle.feed_values.specs.Snapshot.{entity_payloads}
-use Rattle.rule_core.specs.declared.key.EntityKey.{EntityKey}
-use Rattle.rule_core.specs.Order.{key_cmp, same_key}
-use Rattle.rule_core.specs.Groups.{Each}
-use Rattle.rule_core.specs.GroupLaws.{each_weaken}
-use Rattle.rule_core.specs.History.{Snapshot, Keyed, id_of, count_id, keyed_after, ordered_after, entities_in, entities_of_snapshot, entities, now}
-use Rattle.rule_core.specs.Answered.{payload_under}
+use Rattle.rule_table.specs.declared.key.EntityKey.{EntityKey}
+use Rattle.rule_table.specs.Order.{key_cmp, same_key}
+use Rattle.rule_table.specs.Groups.{Each}
+use Rattle.rule_table.specs.GroupLaws.{each_weaken}
+use Rattle.rule_history.specs.History.{Snapshot, Keyed, id_of, count_id, keyed_after, ordered_after, entities_in, entities_of_snapshot, entities, now}
+use Rattle.rule_history.specs.Answered.{payload_under}
 use Rattle.engine_laws.specs.HeldFeeds.{AreApart}
 use Rattle.engine_laws.proofs.Longer.{now-feed}
 use Rattle.engine_laws.proofs.Sorted.{each_insert, key_cmp_self, cmp_equal}

@@ -5,12 +5,12 @@ use Rattle.std.proofs.lemmas.List.{take-append-le, map-append}
 use Rattle.std.proofs.Math.Nat.{eq-or-lt_of_le}
 use Rattle.std.proofs.Math.Seq.{take-length, take-append-add}
 use Rattle.timetable.specs.Timetables.{Tables}
-use Rattle.rule_core.specs.Found.{Found}
-use Rattle.rule_core.specs.Groups.{Each}
-use Rattle.rule_core.specs.History.{Snapshot}
-use Rattle.rule_core.specs.Findings.{findings}
-use Rattle.rule_core.specs.Changed.{with}
-use Rattle.rule_core.specs.Standing.{Standing, IsSince, stands, stands_after, same_spot}
+use Rattle.rule_table.specs.Found.{Found}
+use Rattle.rule_table.specs.Groups.{Each}
+use Rattle.rule_history.specs.History.{Snapshot}
+use Rattle.rule_history.specs.Findings.{findings}
+use Rattle.rule_history.specs.Changed.{with}
+use Rattle.rule_history.specs.Standing.{Standing, IsSince, stands, stands_after, same_spot}
 use Rattle.engine_laws.specs.Standings.{findings_of, since_in, numbered, renewed, IsListOf}
 use Rattle.engine_laws.proofs.Spots.{or_left, or_right, spot_self, stands_same}
 

@@ -4,23 +4,23 @@ use Rattle.std.specs.List.{list_any, find}
 use Rattle.std.proofs.Common.{sym, ◌∙◌, ap, subst, arith, eq-eqb}
 use Rattle.std.proofs.lemmas.Bool.Decides.{nat_tests}
 use borrow.Author.Tests.{eqb-true}
+use Rattle.std.proofs.lemmas.Bool.{and_parts}
 use Rattle.feed_values.specs.Snapshot.{entity_of}
 use Rattle.timetable.specs.Timetables.{Tables}
-use Rattle.rule_core.specs.declared.key.EntityKey.{EntityKey}
-use Rattle.rule_core.specs.declared.place.Place.{Place}
-use Rattle.rule_core.specs.declared.place.Place.TheVariants as place
-use Rattle.rule_core.specs.declared.rule.RuleId.TheVariants.{E012, E050}
-use Rattle.rule_core.specs.Rules.{same_rule}
-use Rattle.rule_core.specs.Order.{same_key}
-use Rattle.rule_core.specs.Found.{Found}
-use Rattle.rule_core.specs.Groups.{Each, IsUnder}
-use Rattle.rule_core.specs.GroupLaws.{and_true}
-use Rattle.rule_core.specs.Pairs.{rows_of}
-use Rattle.rule_core.specs.History.{Snapshot, Keyed, now, entities, entities_in, entities_of_snapshot, below, feed_limit}
-use Rattle.rule_core.specs.Answered.{rows, rows_in}
-use Rattle.rule_core.specs.Findings.{findings}
-use Rattle.rule_core.specs.Changed.{with, is_paired, keeps_bounds, count_of, tested, paired, bounded, in_tested, in_bounded, all_entities, is_under, is_bound_at, has_bound}
-use Rattle.rule_core.specs.Standing.{Standing}
+use Rattle.rule_table.specs.declared.key.EntityKey.{EntityKey}
+use Rattle.rule_table.specs.declared.place.Place.{Place}
+use Rattle.rule_table.specs.declared.place.Place.TheVariants as place
+use Rattle.rule_table.specs.declared.rule.RuleId.TheVariants.{E012, E050}
+use Rattle.rule_table.specs.Rules.{same_rule}
+use Rattle.rule_table.specs.Order.{same_key}
+use Rattle.rule_table.specs.Found.{Found}
+use Rattle.rule_table.specs.Groups.{Each, IsUnder}
+use Rattle.rule_table.specs.Pairs.{rows_of}
+use Rattle.rule_history.specs.History.{Snapshot, Keyed, now, entities, entities_in, entities_of_snapshot, below, feed_limit}
+use Rattle.rule_history.specs.Answered.{rows, rows_in}
+use Rattle.rule_history.specs.Findings.{findings}
+use Rattle.rule_history.specs.Changed.{with, is_paired, keeps_bounds, count_of, tested, paired, bounded, in_tested, in_bounded, all_entities, is_under, is_bound_at, has_bound}
+use Rattle.rule_history.specs.Standing.{Standing}
 use Rattle.engine_laws.specs.Delta.{Delta, IsDelta, IsChange, is_other, has_limit, is_new, is_limited}
 use Rattle.engine_laws.specs.HeldFeeds.{KeyedLists, HeldFeed, AreUnder, IsLastOf, IsOwn, list_under, joined, rows_held, IsNext}
 use Rattle.engine_laws.specs.Standings.{findings_of, IsListOf}
@@ -32,7 +32,7 @@ use Rattle.engine_laws.proofs.Sorted.{entities_feed}
 use Rattle.engine_laws.proofs.Spots.{key_is, any-having, is_some_one, key_self}
 
 -- ---- counting
-count-append : {A : Type 0} (test : A → Bool) (xs ys : List A) → count_of test (xs ++ ys) ≡ count_of test xs + count_of test ys
+pub count-append : {A : Type 0} (test : A → Bool) (xs ys : List A) → count_of test (xs ++ ys) ≡ count_of test xs + count_of test ys
 count-append test [] ys = zero_left (count_of test ys)
   where
     zero_left : (n : ℕ) → n ≡ 0 + n
@@ -42,11 +42,11 @@ count-append test (x ∷ xs) ys = ap (λ n. cond (test x) 1 0 + n) (count-append
     assoc : (a b c : ℕ) → a + (b + c) ≡ (a + b) + c
     assoc a b c = omega arith
 
-count-same : {A : Type 0} (p q : A → Bool) (xs : List A) → Each (λ x. p x ≡ q x) xs → count_of p xs ≡ count_of q xs
+pub count-same : {A : Type 0} (p q : A → Bool) (xs : List A) → Each (λ x. p x ≡ q x) xs → count_of p xs ≡ count_of q xs
 count-same p q [] h = refl
 count-same p q (x ∷ xs) h = ap (λ b. cond b 1 0 + count_of p xs) h.0 ∙ ap (λ n. cond (q x) 1 0 + n) (count-same p q xs h.1)
 
-count-none : {A : Type 0} (p : A → Bool) (xs : List A) → Each (λ x. p x ≡ false) xs → count_of p xs ≡ 0
+pub count-none : {A : Type 0} (p : A → Bool) (xs : List A) → Each (λ x. p x ≡ false) xs → count_of p xs ≡ 0
 count-none p [] h = refl
 count-none p (x ∷ xs) h = ap (λ b. cond b 1 0 + count_of p xs) h.0 ∙ ap (λ n. 0 + n) (count-none p xs h.1)
 
@@ -108,7 +108,7 @@ list_own key (c ∷ cs) all =
     ] refl
 
 sees_key : (key : EntityKey) (x : Found) → is_bound_at key x ≡ true → IsUnder key x.place
-sees_key key x e = at x.place (and_true (same_rule x.rule E012 || same_rule x.rule E050) (is_under key x.place) e).1
+sees_key key x e = at x.place (and_parts (same_rule x.rule E012 || same_rule x.rule E050) (is_under key x.place) e).1
   where
     at : (p : Place) → is_under key p ≡ true → IsUnder key p
     at (place.Head f s) h = cc

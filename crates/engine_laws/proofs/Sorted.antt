@@ -2,8 +2,6 @@
 use Rattle.std.specs.Prelude.{◌≡◌, ℕ, false, cond, List, [], ◌∷◌, ◌++◌, Option, Some, option_map, true, Bool, refl}
 use Rattle.std.specs.List.{find}
 use Rattle.std.proofs.Common.{arith, ◌∙◌, ap, sym, subst, append-nil, append_assoc}
-use Rattle.std.proofs.lemmas.Cmp.{nat_cmp_total, on_total, then_total, lists_total}
-use Rattle.std.specs.Cmp.{IsTotalOrder}
 use Rattle.std.specs.Ordering.{ordering_reverse, match_ordering, nat_cmp, is_eq, ordering_then}
 use Rattle.std.specs.declared.cmp.Ordering.{Ordering}
 use Rattle.std.specs.declared.cmp.Ordering.TheVariants as order
@@ -12,19 +10,17 @@ use Rattle.std.specs.Map.{lookup}
 use Rattle.std.specs.Cmp.Lexicographic.{slice_cmp, texts_ties}
 use Rattle.std.proofs.lemmas.Slice.Eq.{bytes_eq-Decides}
 use Rattle.std.proofs.lemmas.Bool.Decides.{nat_tests}
-use Rattle.rule_core.specs.declared.key.EntityKey.{EntityKey}
-use Rattle.rule_core.specs.Order.{key_cmp, same_key}
-use Rattle.rule_core.specs.Groups.{Each}
-use Rattle.rule_core.specs.GroupLaws.{each_weaken}
-use Rattle.rule_core.specs.History.{Keyed, keyed_after, ordered_after, entities_in}
-use Rattle.feed_values.specs.Snapshot.{entity_payloads}
-use Rattle.rule_core.specs.Answered.{payload_under}
-use Rattle.engine_laws.specs.Order.{Rises}
+use Rattle.rule_table.specs.declared.key.EntityKey.{EntityKey}
+use Rattle.rule_table.specs.Order.{key_cmp, same_key}
+use Rattle.rule_table.specs.Groups.{Each}
+use Rattle.rule_table.specs.GroupLaws.{each_weaken}
+use Rattle.rule_history.specs.History.{Keyed, ordered_after}
+use Rattle.rule_history.specs.Answered.{payload_under}
+pub use Rattle.rule_table.specs.Rises.{Rising}
+pub use Rattle.rule_table.proofs.SameKeys.{keys_total}
+pub use Rattle.rule_history.proofs.Keyed.{each_insert, rising_insert, rising_after, entities_rise, entities_feed}
 use Rattle.engine_laws.specs.HeldFeeds.{AreApart}
 use Rattle.engine_laws.proofs.Spots.{is_false, key_is, key_self, key_other}
-
-pub keys_total : IsTotalOrder key_cmp
-keys_total = then_total (on_total (λ k. k.feed) nat_cmp_total) (then_total (on_total (λ k. k.id) (lists_total nat_cmp_total)) (on_total (λ k. k.occurrence) nat_cmp_total))
 
 -- what is in order with itself is equal to itself
 pub itself : (o : Ordering) → o ≡ ordering_reverse o → o ≡ order.Equal
@@ -65,51 +61,9 @@ cmp_equal k l h =
         ∙ ap (λ x. let r : EntityKey = record { feed = l.feed; id = x; occurrence = k.occurrence } in r) i
         ∙ ap (λ x. let r : EntityKey = record { feed = l.feed; id = l.id; occurrence = x } in r) o
 
--- ---- each key is below those after it
-abbrev pub Rising : {A : Type 0} → List (EntityKey × A) → Type 0
-Rising es = Rises (λ d e. key_cmp d.0 e.0) es
-
--- what holds of all keys holds of them where one more comes in
-pub each_insert : {A : Type 0} (P : EntityKey → Type 0) (es : List (EntityKey × A)) (k : EntityKey) (v : A) → P k → Each (λ e. P e.0) es → Each (λ e. P e.0) (insert_entry key_cmp es k v)
-each_insert P [] k v p h = (p, tt)
-each_insert P (e ∷ es) k v p h =
-    elim (key_cmp k e.0) as (λ o. Each (λ e. P e.0) (match_ordering o ((k, v) ∷ e ∷ es) ((e.0, v) ∷ es) (e ∷ insert_entry key_cmp es k v))) [
-      | order.Less ↦ (p, h)
-      | order.Equal ↦ (h.0, h.1)
-      | order.Greater ↦ (h.0, each_insert P es k v p h.1)
-    ]
-
-pub rising_insert : {A : Type 0} (es : List (EntityKey × A)) (k : EntityKey) (v : A) → Rising es → Rising (insert_entry key_cmp es k v)
-rising_insert [] k v h = (tt, tt)
-rising_insert (e ∷ es) k v h =
-    elim (key_cmp k e.0) as (λ o. key_cmp k e.0 ≡ o → Rising (match_ordering o ((k, v) ∷ e ∷ es) ((e.0, v) ∷ es) (e ∷ insert_entry key_cmp es k v))) [
-      | order.Less ↦ λ l. ((l, each_weaken (λ d. key_cmp e.0 d.0 ≡ order.Less) (λ d. key_cmp k d.0 ≡ order.Less) (λ d m. keys_total.trans k e.0 d.0 l m) es h.0), h)
-      | order.Equal ↦ λ _. h
-      | order.Greater ↦ λ g. (each_insert (λ l. key_cmp e.0 l ≡ order.Less) es k v (keys_total.antisymm e.0 k ∙ ap ordering_reverse g) h.0, rising_insert es k v h.1)
-    ] refl
-
-rising_after : {A : Type 0} (done es : List (EntityKey × A)) → Rising done → Rising (ordered_after done es)
-rising_after done [] h = h
-rising_after done (e ∷ es) h = rising_after (insert_entry key_cmp done e.0 e.1) es (rising_insert done e.0 e.1 h)
-
-pub entities_rise : (f : ℕ) (bytes : List ℕ) → Rising (entities_in f bytes)
-entities_rise f bytes = rising_after [] (keyed_after f [] (entity_payloads bytes)) tt
-
 pub apart_rising : {A : Type 0} (es : List (EntityKey × A)) → Rising es → AreApart es
 apart_rising [] h = tt
 apart_rising (e ∷ es) h = (each_weaken (λ d. key_cmp e.0 d.0 ≡ order.Less) (λ d. same_key e.0 d.0 ≡ false) (λ d l. less_other e.0 d.0 l) es h.0, apart_rising es h.1)
-
--- ---- the keys of a snapshot's entities
-each_ordered : {A : Type 0} (P : EntityKey → Type 0) (done es : List (EntityKey × A)) → Each (λ e. P e.0) done → Each (λ e. P e.0) es → Each (λ e. P e.0) (ordered_after done es)
-each_ordered P done [] d h = d
-each_ordered P done (e ∷ es) d h = each_ordered P (insert_entry key_cmp done e.0 e.1) es (each_insert P done e.0 e.1 h.0 d) h.1
-
-keyed_feed : (f : ℕ) (done ps : List (List ℕ)) → Each (λ e. e.0.feed ≡ f) (keyed_after f done ps)
-keyed_feed f done [] = tt
-keyed_feed f done (p ∷ ps) = (refl, keyed_feed f (done ++ p ∷ []) ps)
-
-pub entities_feed : (f : ℕ) (bytes : List ℕ) → Each (λ e. e.0.feed ≡ f) (entities_in f bytes)
-entities_feed f bytes = each_ordered (λ k. k.feed ≡ f) [] (keyed_after f [] (entity_payloads bytes)) tt (keyed_feed f [] (entity_payloads bytes))
 
 -- each entity is what is found under its key
 pub found_under : (es : List Keyed) → AreApart es → Each (λ e. payload_under e.0 es ≡ Some e.1) es

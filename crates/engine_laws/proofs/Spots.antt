@@ -1,30 +1,23 @@
 -- A rule at a place, and what a list has there.
-use Rattle.std.specs.Prelude.{◌≡◌, ℕ, ◌==◌, ◌&&◌, ◌||◌, Bool, true, false, cond, List, [], ◌∷◌, filter, Option, Some, None, bytes_eq, refl}
+use Rattle.std.specs.Prelude.{◌≡◌, ℕ, ◌==◌, ◌&&◌, ◌||◌, Bool, true, false, cond, List, [], ◌∷◌, filter, Option, Some, None, refl}
 use Rattle.std.specs.List.{list_any}
 use Rattle.std.proofs.Common.{sym, ap, ◌∙◌, eq-eqb}
-use Rattle.std.proofs.lemmas.Slice.Eq.{bytes_eq-Decides}
 use borrow.Author.Tests.{eqb-true}
-use Rattle.rule_core.specs.declared.key.EntityKey.{EntityKey}
-use Rattle.rule_core.specs.declared.place.Place.{Place}
-use Rattle.rule_core.specs.declared.place.Place.TheVariants as place
-use Rattle.rule_core.specs.Rules.{rule_number, same_rule}
-use Rattle.rule_core.specs.Order.{same_key, same_path, same_place, slot_number}
-use Rattle.rule_core.specs.Found.{Found}
-use Rattle.rule_core.specs.Groups.{IsOn, IsUnder}
-use Rattle.rule_core.specs.GroupLaws.{and_true}
-use Rattle.rule_core.specs.Standing.{Standing, same_spot, same_finding, stands, was}
+use Rattle.std.proofs.lemmas.Bool.{and_parts, and_from}
+use Rattle.rule_table.specs.declared.key.EntityKey.{EntityKey}
+use Rattle.rule_table.specs.declared.place.Place.{Place}
+use Rattle.rule_table.specs.declared.place.Place.TheVariants as place
+use Rattle.rule_table.specs.Rules.{rule_number, same_rule}
+use Rattle.rule_table.specs.Order.{same_key, same_path, same_place, slot_number}
+use Rattle.rule_table.specs.Found.{Found}
+use Rattle.rule_table.specs.Groups.{IsOn, IsUnder}
+pub use Rattle.rule_table.specs.GroupLaws.{or_left, or_right}
+pub use Rattle.rule_table.proofs.SameKeys.{key_is, key_self, key_other}
+use Rattle.rule_history.specs.Standing.{Standing, same_spot, same_finding, stands, was}
 use Rattle.engine_laws.specs.Standings.{findings_of, since_in}
 
 pub both_true : (b c : Bool) → b ≡ true → c ≡ true → (b && c) ≡ true
-both_true b c h k = cc
-
-pub or_left : (b c : Bool) → b ≡ true → (b || c) ≡ true
-or_left true c h = refl
-or_left false c h = cc
-
-pub or_right : (b c : Bool) → c ≡ true → (b || c) ≡ true
-or_right true c h = refl
-or_right false c h = h
+both_true = and_from
 
 pub or_false : (b c : Bool) → (b || c) ≡ false → (b ≡ false) × (c ≡ false)
 or_false true c h = cc
@@ -34,28 +27,6 @@ or_false false c h = (refl, h)
 pub is_false : (b : Bool) → (b ≡ true → ⊥) → b ≡ false
 is_false true h = absurd (h refl)
 is_false false h = refl
-
--- ---- keys
-pub key_is : (k l : EntityKey) → same_key k l ≡ true → k ≡ l
-key_is k l h =
-    let p = and_true (k.feed == l.feed && bytes_eq k.id l.id) (k.occurrence == l.occurrence) h in
-    let q = and_true (k.feed == l.feed) (bytes_eq k.id l.id) p.0 in
-    make (eqb-true k.feed l.feed q.0) ((bytes_eq-Decides k.id l.id).0 q.1) (eqb-true k.occurrence l.occurrence p.1)
-  where
-    make : k.feed ≡ l.feed → k.id ≡ l.id → k.occurrence ≡ l.occurrence → k ≡ l
-    make f i o =
-        ap (λ x. let r : EntityKey = record { feed = x; id = k.id; occurrence = k.occurrence } in r) f
-        ∙ ap (λ x. let r : EntityKey = record { feed = l.feed; id = x; occurrence = k.occurrence } in r) i
-        ∙ ap (λ x. let r : EntityKey = record { feed = l.feed; id = l.id; occurrence = x } in r) o
-
-pub key_self : (k : EntityKey) → same_key k k ≡ true
-key_self k =
-    both_true (k.feed == k.feed && bytes_eq k.id k.id) (k.occurrence == k.occurrence)
-    (both_true (k.feed == k.feed) (bytes_eq k.id k.id) (eq-eqb k.feed k.feed refl) ((bytes_eq-Decides k.id k.id).1 refl))
-    (eq-eqb k.occurrence k.occurrence refl)
-
-pub key_other : (k l : EntityKey) → same_key k l ≡ false → k ≡ l → ⊥
-key_other k l n e = let t : same_key k l ≡ true = ap (same_key k) (sym e) ∙ key_self k in cc
 
 -- ---- places
 same_number : (a b c : ℕ) → (a == b) ≡ true → (a == c) ≡ (b == c)
@@ -70,11 +41,11 @@ place_left (place.Entity k p) (place.Head g t) r h = cc
 place_left (place.Head f s) (place.Head g t) (place.Entity m r) h = refl
 place_left (place.Entity k p) (place.Entity l q) (place.Head u v) h = refl
 place_left (place.Head f s) (place.Head g t) (place.Head u v) h =
-    let e = and_true (f == g) (slot_number s == slot_number t) h in
+    let e = and_parts (f == g) (slot_number s == slot_number t) h in
     ands (f == u) (g == u) (slot_number s == slot_number v) (slot_number t == slot_number v) (same_number f g u e.0) (same_number (slot_number s) (slot_number t) (slot_number v) e.1)
 place_left (place.Entity k p) (place.Entity l q) (place.Entity m r) h =
-    let e = and_true (same_key k l) (same_path p q) h in
-    let i = and_true (slot_number p.slot == slot_number q.slot) (p.index == q.index) e.1 in
+    let e = and_parts (same_key k l) (same_path p q) h in
+    let i = and_parts (slot_number p.slot == slot_number q.slot) (p.index == q.index) e.1 in
     ands (same_key k m) (same_key l m) (same_path p r) (same_path q r) (ap (λ x. same_key x m) (key_is k l e.0))
     (ands (slot_number p.slot == slot_number r.slot) (slot_number q.slot == slot_number r.slot) (p.index == r.index) (q.index == r.index)
     (same_number (slot_number p.slot) (slot_number q.slot) (slot_number r.slot) i.0) (same_number p.index q.index r.index i.1))
@@ -91,7 +62,7 @@ spot_self f = both_true (same_rule f.rule f.rule) (same_place f.place f.place) (
 
 pub spot_left : (f g k : Found) → same_spot f g ≡ true → same_spot f k ≡ same_spot g k
 spot_left f g k h =
-    let e = and_true (same_rule f.rule g.rule) (same_place f.place g.place) h in
+    let e = and_parts (same_rule f.rule g.rule) (same_place f.place g.place) h in
     ands (same_rule f.rule k.rule) (same_rule g.rule k.rule) (same_place f.place k.place) (same_place g.place k.place)
     (same_number (rule_number f.rule) (rule_number g.rule) (rule_number k.rule) e.0) (place_left f.place g.place k.place e.1)
 
@@ -100,20 +71,20 @@ spot_back f g h = sym (spot_left f g f h) ∙ spot_self f
 
 -- a rule at a place is on one header, or under one key
 pub spot_on : (n : ℕ) (f g : Found) → IsOn n f.place → same_spot f g ≡ true → IsOn n g.place
-spot_on n f g on h = at f.place g.place on (and_true (same_rule f.rule g.rule) (same_place f.place g.place) h).1
+spot_on n f g on h = at f.place g.place on (and_parts (same_rule f.rule g.rule) (same_place f.place g.place) h).1
   where
     at : (p q : Place) → IsOn n p → same_place p q ≡ true → IsOn n q
-    at (place.Head f s) (place.Head g t) on h = sym (eqb-true f g (and_true (f == g) (slot_number s == slot_number t) h).0) ∙ on
+    at (place.Head f s) (place.Head g t) on h = sym (eqb-true f g (and_parts (f == g) (slot_number s == slot_number t) h).0) ∙ on
     at (place.Head f s) (place.Entity l q) on h = cc
     at (place.Entity k p) q on h = absurd on
 
 pub spot_under : (key : EntityKey) (f g : Found) → IsUnder key f.place → same_spot f g ≡ true → IsUnder key g.place
-spot_under key f g under h = at f.place g.place under (and_true (same_rule f.rule g.rule) (same_place f.place g.place) h).1
+spot_under key f g under h = at f.place g.place under (and_parts (same_rule f.rule g.rule) (same_place f.place g.place) h).1
   where
     at : (p q : Place) → IsUnder key p → same_place p q ≡ true → IsUnder key q
     at (place.Head f s) q under h = absurd under
     at (place.Entity k p) (place.Head g t) under h = cc
-    at (place.Entity k p) (place.Entity l q) under h = sym (key_is k l (and_true (same_key k l) (same_path p q) h).0) ∙ under
+    at (place.Entity k p) (place.Entity l q) under h = sym (key_is k l (and_parts (same_key k l) (same_path p q) h).0) ∙ under
 
 -- whether a rule stands at a place sees the rule and the place alone
 pub stands_same : (fs : List Found) (f g : Found) → same_spot f g ≡ true → stands fs f ≡ stands fs g

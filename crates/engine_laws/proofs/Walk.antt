@@ -7,16 +7,17 @@ use Rattle.std.specs.Cmp.Lexicographic.{slice_cmp}
 use Rattle.std.proofs.Common.{◌∙◌, ap, eq-eqb}
 use Rattle.std.proofs.lemmas.Cmp.{nat_cmp_total, nat_list_cmp_total, on_total, then_total}
 use Rattle.std.proofs.lemmas.Slice.Eq.{bytes_eq-Decides}
-use Rattle.rule_core.specs.declared.key.EntityKey.{EntityKey}
-use Rattle.rule_core.specs.declared.place.Place.{Place}
-use Rattle.rule_core.specs.declared.place.Place.TheVariants as place
-use Rattle.rule_core.specs.Rules.{rule_number, same_rule}
-use Rattle.rule_core.specs.Order.{slot_number, same_key, same_path, same_place}
-use Rattle.rule_core.specs.Asked.{feed_of, slot_of, index_of}
-use Rattle.rule_core.specs.Found.{Found}
-use Rattle.rule_core.specs.Groups.{Each}
-use Rattle.rule_core.specs.GroupLaws.{each_weaken}
-use Rattle.rule_core.specs.Standing.{Standing, Spot, same_spot, same_facts, stands, was, opened, closed}
+use Rattle.rule_table.specs.declared.key.EntityKey.{EntityKey}
+use Rattle.rule_table.specs.declared.place.Place.{Place}
+use Rattle.rule_table.specs.declared.place.Place.TheVariants as place
+use Rattle.rule_table.specs.Rules.{rule_number, same_rule}
+use Rattle.rule_table.specs.Order.{slot_number, same_key, same_path, same_place}
+use Rattle.rule_table.specs.Asked.{feed_of, slot_of, index_of}
+use Rattle.rule_table.specs.Found.{Found}
+use Rattle.rule_table.specs.Groups.{Each}
+use Rattle.rule_table.specs.GroupLaws.{each_weaken}
+use Rattle.rule_history.specs.Standing.{Standing, Spot, same_spot, stands, was, opened, closed}
+use Rattle.rule_table.specs.SameFacts.{same_facts}
 use Rattle.engine_laws.specs.Order.{holder_cmp, found_cmp, Rises}
 use Rattle.engine_laws.specs.Standings.{findings_of, since_in, renewed}
 use Rattle.engine_laws.proofs.Ascending.{spot_equal, less_apart}

@@ -3,11 +3,11 @@
 use Rattle.std.specs.Prelude.{◌≡◌, ℕ, zero, suc, ◌<◌, Bool, List, [], length, map, Option, if◌then◌else◌}
 use Rattle.feed_values.specs.Snapshot.{entity_payloads}
 use Rattle.timetable.specs.Timetables.{Tables}
-use Rattle.rule_core.specs.Found.{Found}
-use Rattle.rule_core.specs.History.{Snapshot, feed_limit}
-use Rattle.rule_core.specs.Findings.{findings}
-use Rattle.rule_core.specs.Changed.{with, tested, paired, bounded}
-use Rattle.rule_core.specs.Standing.{Standing, stands_after, opened, closed}
+use Rattle.rule_table.specs.Found.{Found}
+use Rattle.rule_history.specs.History.{Snapshot, feed_limit}
+use Rattle.rule_history.specs.Findings.{findings}
+use Rattle.rule_history.specs.Changed.{with, tested, paired, bounded}
+use Rattle.rule_history.specs.Standing.{Standing, stands_after, opened, closed}
 use Rattle.engine_laws.specs.Delta.{Delta, IsDelta}
 use Rattle.engine_laws.specs.Standings.{IsListOf}
 

@@ -3,14 +3,14 @@ use Rattle.std.specs.Prelude.{◌≡◌, ℕ, ◌==◌, ◌&&◌, ◌||◌, not,
 use Rattle.std.specs.List.{list_any}
 use Rattle.feed_values.specs.Snapshot.{entity_payloads, entity_of}
 use Rattle.timetable.specs.Timetables.{Tables}
-use Rattle.rule_core.specs.declared.rule.RuleId.TheVariants.{E012, E050}
-use Rattle.rule_core.specs.Rules.{same_rule}
-use Rattle.rule_core.specs.Pairs.{rows_of}
-use Rattle.rule_core.specs.History.{Snapshot, Keyed, entities_in, entities_of_snapshot, below, feed_limit}
-use Rattle.rule_core.specs.Answered.{payload_under}
-use Rattle.rule_core.specs.Findings.{findings}
-use Rattle.rule_core.specs.Changed.{with, is_payload, is_paired, keeps_bounds, count_of, tested, paired, bounded}
-use Rattle.rule_core.specs.Standing.{Standing, Spot, opened, closed}
+use Rattle.rule_table.specs.declared.rule.RuleId.TheVariants.{E012, E050}
+use Rattle.rule_table.specs.Rules.{same_rule}
+use Rattle.rule_table.specs.Pairs.{rows_of}
+use Rattle.rule_history.specs.History.{Snapshot, Keyed, entities_in, entities_of_snapshot, below, feed_limit}
+use Rattle.rule_history.specs.Answered.{payload_under}
+use Rattle.rule_history.specs.Findings.{findings}
+use Rattle.rule_history.specs.Changed.{with, is_payload, is_paired, keeps_bounds, count_of, tested, paired, bounded}
+use Rattle.rule_history.specs.Standing.{Standing, Spot, opened, closed}
 use Rattle.engine_laws.specs.HeldFeeds.{HeldFeed, list_under, rows_held, opened_in, closed_in}
 
 -- how many snapshots were before, how many entities this one has, what it opened and closed, and three counts of entities

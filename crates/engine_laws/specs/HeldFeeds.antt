@@ -7,17 +7,18 @@ use Rattle.feed_values.specs.Messages.{entity}
 use Rattle.feed_values.specs.Snapshot.{header_of, timestamp_of, entity_of}
 use Rattle.feed_values.specs.declared.cell_value.CellValue.{CellValue}
 use Rattle.timetable.specs.Timetables.{Tables}
-use Rattle.rule_core.specs.declared.ask.Ask.{Ask}
-use Rattle.rule_core.specs.declared.key.EntityKey.{EntityKey}
-use Rattle.rule_core.specs.Table.{all_rules}
-use Rattle.rule_core.specs.Order.{same_key}
-use Rattle.rule_core.specs.Found.{Found}
-use Rattle.rule_core.specs.Groups.{Each, IsOn, IsUnder}
-use Rattle.rule_core.specs.Judged.{found_all, head_found_all}
-use Rattle.rule_core.specs.Pairs.{PairRow}
-use Rattle.rule_core.specs.History.{Snapshot, Keyed, entities_in, entities_of_snapshot, below, feed_limit}
-use Rattle.rule_core.specs.Answered.{entity_answer, timetable_answer, heads_answer, heads_of, rows_answer, rows_in, limit_answer}
-use Rattle.rule_core.specs.Standing.{Standing, Spot, opened, closed}
+use Rattle.rule_table.specs.declared.ask.Ask.{Ask}
+use Rattle.rule_table.specs.declared.key.EntityKey.{EntityKey}
+use Rattle.rule_table.specs.Table.{all_rules}
+use Rattle.rule_table.specs.Order.{same_key}
+use Rattle.rule_table.specs.Found.{Found}
+use Rattle.rule_table.specs.Groups.{Each, IsOn, IsUnder}
+use Rattle.rule_table.specs.Judged.{found_all, head_found_all}
+use Rattle.rule_table.specs.Pairs.{PairRow}
+use Rattle.rule_history.specs.History.{Snapshot, Keyed, entities_in, entities_of_snapshot, below, feed_limit}
+use Rattle.rule_table.specs.Answers.{entity_answer, heads_answer, rows_answer, limit_answer}
+use Rattle.rule_history.specs.Answered.{timetable_answer, heads_of, rows_in}
+use Rattle.rule_history.specs.Standing.{Standing, Spot, opened, closed}
 use Rattle.engine_laws.specs.Standings.{Held, findings_of, renewed}
 
 -- ---- what is held of a feed

@@ -2,27 +2,23 @@
 use Rattle.std.specs.Prelude.{◌≡◌, ℕ, ◌+◌, ◌<◌, ◌≤◌, ◌==◌, Bool, true, false, List, [], filter, get_or, length, Option, Some, None}
 use Rattle.std.specs.List.{list_any}
 use Rattle.timetable.specs.Timetables.{Tables}
-use Rattle.feed_values.specs.declared.cell_value.CellValue.{CellValue}
-use Rattle.rule_core.specs.declared.ask.Ask.{Ask}
-use Rattle.rule_core.specs.declared.rule.RuleId.{RuleId}
-use Rattle.rule_core.specs.Table.{all_rules}
-use Rattle.rule_core.specs.Found.{Found}
-use Rattle.rule_core.specs.Judged.{head_found_all}
-use Rattle.rule_core.specs.Pairs.{PairRow, rows_of, shares}
-use Rattle.rule_core.specs.PairAgree.{Agree, AgreeOnRow}
-use Rattle.rule_core.specs.declared.key.EntityKey.{EntityKey}
+use Rattle.rule_table.specs.Table.{all_rules}
+use Rattle.rule_table.specs.Found.{Found}
+use Rattle.rule_table.specs.Judged.{head_found_all}
+use Rattle.rule_table.specs.Pairs.{PairRow, rows_of, shares}
+use Rattle.rule_table.specs.PairAgree.{Agree, AgreeOnRow}
+use Rattle.rule_table.specs.declared.key.EntityKey.{EntityKey}
 use Rattle.feed_values.specs.Schema.{Value}
 use Rattle.feed_values.specs.Messages.{entity}
 use Rattle.feed_values.specs.Snapshot.{entity_of}
-use Rattle.rule_core.specs.History.{Snapshot, Keyed, entities, now, before, below, feed_limit}
-use Rattle.rule_core.specs.Answered.{rows, payload_under, feed_answer}
-use Rattle.rule_core.specs.Findings.{findings}
-use Rattle.rule_core.specs.Changed.{with, changed_rows, in_paired}
-use Rattle.rule_core.specs.Standing.{Standing, IsSince, stands, stands_after, opened, closed}
+use Rattle.rule_history.specs.History.{Snapshot, Keyed, entities, now, before, below, feed_limit}
+use Rattle.rule_history.specs.Answered.{rows, payload_under, feed_answer}
+use Rattle.rule_history.specs.Findings.{findings}
+use Rattle.rule_history.specs.Changed.{with, changed_rows, in_paired}
+use Rattle.rule_history.specs.Standing.{Standing, IsSince, stands, stands_after, opened, closed}
 use Rattle.engine_laws.specs.Delta.{Delta, IsDelta, IsChange}
-use Rattle.engine_laws.specs.Groups.{are_groups, groups_found, by_rule, head_rules}
 use Rattle.engine_laws.specs.Order.{found_cmp, Rises}
-use Rattle.engine_laws.specs.HeldFeeds.{HeldFeed, feed_at, data_of, AreOwn, IsJoined, KeyedFindings, AreFoundAt, joined, found_list, feed_found, entity_found, renewed_lists, IsNext, opened_in, closed_in}
+use Rattle.engine_laws.specs.HeldFeeds.{HeldFeed, feed_at, data_of, AreOwn, IsJoined, KeyedFindings, AreFoundAt, joined, found_list, feed_found, renewed_lists, IsNext, opened_in, closed_in}
 use Rattle.engine_laws.specs.Rows.{row_cmp}
 use Rattle.engine_laws.specs.Seats.{LosesNone}
 use Rattle.engine_laws.specs.Standings.{Held, StandsFor, IsListOf, findings_of, renewed}
@@ -37,15 +33,6 @@ FindingsRise = (t : Option Tables) (h : List Snapshot) → Rises found_cmp (find
 -- judged with the header's timestamp, the moment, the timetable and the rows of all entities.
 abbrev pub FindingsAreParts : Type 0
 FindingsAreParts = (t : Option Tables) (h : List Snapshot) → findings t h ≡ below (λ f. feed_found t (rows h) (now h f) (before h f)) feed_limit
-
--- Where three lists of rules are groups, what they find at an entity, put in the order of rules, is what all rules find there.
-abbrev pub GroupsFind : Type 0
-GroupsFind = (locals pairs bounds : List RuleId) → are_groups locals pairs bounds ≡ true → (t : Option Tables) (u : List PairRow) (s : Snapshot) (e : Keyed) →
-    by_rule all_rules (groups_found locals pairs bounds t u s e) ≡ entity_found t u s e
-
--- The rules that are judged on headers find there what all rules find there.
-abbrev pub HeadsFind : Type 0
-HeadsFind = (answer : Ask → Option CellValue) (f : ℕ) → head_found_all head_rules answer f ≡ head_found_all all_rules answer f
 
 -- What is found on a feed's header stays as it is when another feed's snapshot comes.
 abbrev pub HeadersStay : Type 0

@@ -2,7 +2,6 @@ pub mod Standings
 pub mod Order
 pub mod HeldFeeds
 pub mod Delta
-pub mod Groups
 pub mod Seats
 pub mod Rows
 pub mod Walk

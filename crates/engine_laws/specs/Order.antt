@@ -1,16 +1,15 @@
 -- The order of findings, and lists in order.
-use Rattle.std.specs.Prelude.{◌≡◌, List, [], ◌∷◌}
 use Rattle.std.specs.declared.cmp.Ordering.{Ordering}
 use Rattle.std.specs.declared.cmp.Ordering.TheVariants.{Less, Equal, Greater}
 use Rattle.std.specs.Ordering.{nat_cmp, ordering_then}
 use Rattle.std.specs.Cmp.Lexicographic.{slice_cmp}
-use Rattle.rule_core.specs.declared.place.Place.{Place}
-use Rattle.rule_core.specs.declared.place.Place.TheVariants as place
-use Rattle.rule_core.specs.Rules.{rule_number}
-use Rattle.rule_core.specs.Order.{slot_number}
-use Rattle.rule_core.specs.Asked.{feed_of, slot_of, index_of}
-use Rattle.rule_core.specs.Found.{Found}
-use Rattle.rule_core.specs.Groups.{Each}
+use Rattle.rule_table.specs.declared.place.Place.{Place}
+use Rattle.rule_table.specs.declared.place.Place.TheVariants as place
+use Rattle.rule_table.specs.Rules.{rule_number}
+use Rattle.rule_table.specs.Order.{slot_number}
+use Rattle.rule_table.specs.Asked.{feed_of, slot_of, index_of}
+use Rattle.rule_table.specs.Found.{Found}
+pub use Rattle.rule_table.specs.Rises.{Rises}
 
 -- within a feed its header comes before its entities, and these go by id, byte by byte, then by occurrence
 abbrev pub holder_cmp : Place → Place → Ordering
@@ -26,8 +25,3 @@ found_cmp f g =
     (ordering_then (holder_cmp f.place g.place)
     (ordering_then (nat_cmp (rule_number f.rule) (rule_number g.rule))
     (ordering_then (nat_cmp (slot_number (slot_of f.place)) (slot_number (slot_of g.place))) (nat_cmp (index_of f.place) (index_of g.place)))))
-
--- each of a list comes before all that stand after it
-abbrev pub Rises : {A : Type 0} → (A → A → Ordering) → List A → Type 0
-Rises cmp [] = Unit {0}
-Rises cmp (x ∷ xs) = Each (λ y. cmp x y ≡ Less) xs × Rises cmp xs

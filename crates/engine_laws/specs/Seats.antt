@@ -1,8 +1,8 @@
 -- No entity of a snapshot is lost.
 use Rattle.std.specs.Prelude.{◌≡◌, ℕ, List, ◌∷◌, ◌++◌, length, Some}
 use Rattle.feed_values.specs.Snapshot.{entity_payloads}
-use Rattle.rule_core.specs.History.{Snapshot, id_of, count_id, entities}
-use Rattle.rule_core.specs.Answered.{payload_under}
+use Rattle.rule_history.specs.History.{Snapshot, id_of, count_id, entities}
+use Rattle.rule_history.specs.Answered.{payload_under}
 
 -- A feed has as many entities as its last snapshot has byte strings of entities, and each byte string stands under the
 -- feed, its id, and how many byte strings before it have that id.

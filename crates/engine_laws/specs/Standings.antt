@@ -1,11 +1,11 @@
 -- What an engine holds, which history it stands for, and how its numbers go on.
 use Rattle.std.specs.Prelude.{◌≡◌, ℕ, List, [], ◌∷◌, length, map, get_or, Option, Some, None, unwrap_or, if◌then◌else◌}
 use Rattle.timetable.specs.Timetables.{Tables}
-use Rattle.rule_core.specs.Found.{Found}
-use Rattle.rule_core.specs.Groups.{Each}
-use Rattle.rule_core.specs.History.{Snapshot, now}
-use Rattle.rule_core.specs.Findings.{findings}
-use Rattle.rule_core.specs.Standing.{Standing, IsSince, stands_after, same_spot}
+use Rattle.rule_table.specs.Found.{Found}
+use Rattle.rule_table.specs.Groups.{Each}
+use Rattle.rule_history.specs.History.{Snapshot, now}
+use Rattle.rule_history.specs.Findings.{findings}
+use Rattle.rule_history.specs.Standing.{Standing, IsSince, stands_after, same_spot}
 
 abbrev pub findings_of : List Standing → List Found
 findings_of xs = map (λ x. x.finding) xs

@@ -1,8 +1,9 @@
 -- Lists in order, compared by one walk.
 use Rattle.std.specs.Prelude.{◌≡◌, ℕ, List, ◌∷◌, if◌then◌else◌}
 use Rattle.std.specs.declared.cmp.Ordering.TheVariants.{Less, Equal, Greater}
-use Rattle.rule_core.specs.Found.{Found}
-use Rattle.rule_core.specs.Standing.{Standing, same_facts, opened, closed}
+use Rattle.rule_table.specs.Found.{Found}
+use Rattle.rule_history.specs.Standing.{Standing, opened, closed}
+use Rattle.rule_table.specs.SameFacts.{same_facts}
 use Rattle.engine_laws.specs.Order.{found_cmp, Rises}
 use Rattle.engine_laws.specs.Standings.{findings_of, renewed}
 

@@ -1,9 +1,8 @@
 //! Laws of the definitions. A function stands for its contract: it does nothing, and its `ensures` is proved for every
 //! timetable and every history.
 ghost use Rattle.engine_laws.specs.Computed.{DeltaIsComputed, FirstIsNew, ListIsComputed};
-ghost use Rattle.engine_laws.specs.Groups.{GroupsAre};
 ghost use Rattle.engine_laws.specs.Walk.{WalkCloses, WalkOpens, WalkRenews};
-ghost use Rattle.engine_laws.specs.Laws.{PairingStays, DataAreJoined, FindingsRise, FindingsAreParts, GroupsFind, HeadsFind, HeadersStay, NoneIsLost, SinceGoesOn, SinceStarts, ListGoesOn, PartsRenew, PartsOpen, PartsClose, RowsRise, RowsStay, RowsAgree, NothingStands, NextIsOwn, NextStands, NextChanges};
+ghost use Rattle.engine_laws.specs.Laws.{PairingStays, DataAreJoined, FindingsRise, FindingsAreParts, HeadersStay, NoneIsLost, SinceGoesOn, SinceStarts, ListGoesOn, PartsRenew, PartsOpen, PartsClose, RowsRise, RowsStay, RowsAgree, NothingStands, NextIsOwn, NextStands, NextChanges};
 
 /// The findings after a history are in order: by feed, header before entities, id, occurrence, rule, slot, index. So no rule
 /// stands twice at a place.
@@ -17,24 +16,6 @@ pub fn findings_rise()
 #[tactic(auto, using(crate::proofs::Proved::findings_are_parts))]
 pub fn findings_are_parts()
     ensures { FindingsAreParts }
-{}
-
-/// What the local, pairing and bound rules find at an entity, each with the answers that its group is given, is in the
-/// order of rules what all rules find there.
-pub fn groups_find()
-    ensures { GroupsFind }
-{}
-
-/// The rules with places at an entity are 40 local rules, 3 pairing rules and 2 bound rules; 10 rules have places on a header.
-#[tactic(auto, using(crate::proofs::Groups::groups_are))]
-pub fn groups_are()
-    ensures { GroupsAre }
-{}
-
-/// What the rules with places on a header find there is what all rules find there.
-#[tactic(auto, using(crate::proofs::Proved::heads_find))]
-pub fn heads_find()
-    ensures { HeadsFind }
 {}
 
 /// What is found on a feed's header stays as it is when another feed's snapshot comes.

@@ -11,8 +11,7 @@ mod laws;
 
 pub use laws::{
     data_are_joined, delta_is_computed, findings_are_parts, findings_rise, first_is_new,
-    groups_are, groups_find, headers_stay, heads_find, list_goes_on, list_is_computed,
-    next_changes, next_is_own, next_stands, none_is_lost, nothing_stands, pairing_stays,
-    parts_close, parts_open, parts_renew, rows_agree, rows_rise, rows_stay, since_goes_on,
-    since_starts, walk_closes, walk_opens, walk_renews,
+    headers_stay, list_goes_on, list_is_computed, next_changes, next_is_own, next_stands,
+    none_is_lost, nothing_stands, pairing_stays, parts_close, parts_open, parts_renew, rows_agree,
+    rows_rise, rows_stay, since_goes_on, since_starts, walk_closes, walk_opens, walk_renews,
 };

@@ -6,11 +6,11 @@ use Rattle.std.proofs.lemmas.List.{take_more_set, map-append}
 use Rattle.feed_values.specs.declared.cell_ref.CellRef.{CellRef}
 use Rattle.feed_values.specs.declared.cell_value.CellValue.{CellValue}
 use Rattle.feed_values.specs.Cells.{cell_value}
-use Rattle.rule_core.specs.declared.fact.Fact.{Fact}
-use Rattle.rule_core.specs.declared.place.Place.{Place}
-use Rattle.rule_core.specs.declared.row.Cite.{Cite}
-use Rattle.rule_core.specs.Broken.{IsFormed}
-use Rattle.rule_core.specs.Cited.{values_of}
+use Rattle.rule_table.specs.declared.fact.Fact.{Fact}
+use Rattle.rule_table.specs.declared.place.Place.{Place}
+use Rattle.rule_table.specs.declared.row.Cite.{Cite}
+use Rattle.rule_table.specs.Broken.{IsFormed}
+use Rattle.rule_table.specs.Cited.{values_of}
 
 -- there are as many facts as entries
 pub formed_length : (at : Place) (vs : List CellValue) (cs : List Cite) (fs : List Fact) → IsFormed at vs cs fs → length cs ≡ length fs

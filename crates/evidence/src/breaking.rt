@@ -2,14 +2,14 @@
 ghost use Rattle.std.specs.Prelude.{◌≡◌, ◌↔◌, ◌≤◌, [], IsTrue, Some, length, map};
 ghost use Rattle.std.specs.List.{Contains};
 ghost use Rattle.feed_values.specs.Cells.{cell_value};
-ghost use Rattle.rule_core.specs.Asked.{place_value, slot_of, index_of, ask_at};
-ghost use Rattle.rule_core.specs.Rows.{slots_at};
-ghost use Rattle.rule_core.specs.Passed.{passes};
-ghost use Rattle.rule_core.specs.Cited.{values_of};
-ghost use Rattle.rule_core.specs.Broken.{Breaks, IsPlace, IsFormed};
+ghost use Rattle.rule_table.specs.Asked.{place_value, slot_of, index_of, ask_at};
+ghost use Rattle.rule_table.specs.Rows.{slots_at};
+ghost use Rattle.rule_table.specs.Passed.{passes};
+ghost use Rattle.rule_table.specs.Cited.{values_of};
+ghost use Rattle.rule_table.specs.Broken.{Breaks, IsPlace, IsFormed};
 
 use feed_values::{CellRef, Items, Slot};
-use rule_core::{
+use rule_table::{
     Ask, Atom, Cite, Fact, Place, PlaceRef, RuleId, ask_of, cell_of, cites_at, first, is_in_range,
     slots_at, test_at, test_passes,
 };

@@ -82,6 +82,23 @@ fn say_kept(alloc: Global, kept: &Kept, answer: &mut Vec<u8>) -> Result<(), Allo
     Ok(())
 }
 
+// The id of each entity of a kept snapshot.
+fn say_ids(alloc: Global, bytes: &[u8], answer: &mut Vec<u8>) -> Result<(), AllocError> {
+    let Ok(kept) = in_one(alloc, bytes) else {
+        return say(answer, "refused");
+    };
+    for i in 0..kept.len() {
+        say(answer, kept.entity_id(i))?;
+    }
+    Ok(())
+}
+
+// What comes of some bytes one by one.
+fn say_drip(alloc: Global, bytes: &[u8], answer: &mut Vec<u8>) -> Result<(), AllocError> {
+    let told = outcome(alloc, bytes, byte_by_byte(alloc, bytes))?;
+    say(answer, told.as_str())
+}
+
 fn say_parts(alloc: Global, bytes: &[u8], answer: &mut Vec<u8>) -> Result<(), AllocError> {
     match in_one(alloc, bytes) {
         Ok(kept) => say_kept(alloc, &kept, answer),
@@ -125,7 +142,7 @@ fn say_filled(
     }
 }
 
-/// Answers `cut`, `parts` and `filled LENGTH`.
+/// Answers `cut`, `drip`, `parts`, `ids` and `filled LENGTH`.
 pub fn answer(
     alloc: Global,
     words: &[String],
@@ -134,7 +151,9 @@ pub fn answer(
 ) -> Result<bool, AllocError> {
     match word(words, 0) {
         "cut" => say_cut(alloc, given, answer)?,
+        "drip" => say_drip(alloc, given, answer)?,
         "parts" => say_parts(alloc, given, answer)?,
+        "ids" => say_ids(alloc, given, answer)?,
         "filled" => say_filled(alloc, given, size(words, 1), answer)?,
         _ => return Ok(false),
     }

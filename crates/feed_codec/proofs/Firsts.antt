@@ -35,7 +35,7 @@ Faultless Whole bytes = (l : List WireField) × Joins (Spells 100) l bytes × Al
 
 -- ---- one field
 
-field_whole : {wrong : ℕ → List ℕ → Option Refusal} {Wrong : ℕ → List ℕ → Refusal → Type 0} {Whole : WireField → Type 0} → Agrees wrong Wrong Whole
+pub field_whole : {wrong : ℕ → List ℕ → Option Refusal} {Wrong : ℕ → List ℕ → Refusal → Type 0} {Whole : WireField → Type 0} → Agrees wrong Wrong Whole
     → (number body : ℕ) (x : WireValue) → IfSome (payload_in x) IsBytes → option_case (payload_in x) nothing (λ p. option_map (shifted body) (wrong number p)) ≡ nothing → Whole (record { number = number; value = x })
 field_whole a number body (Len p) ok e = a.none number p ok (unmapped body _ e)
 field_whole a number body (Varint n) ok e = a.other (record { number = number; value = Varint n }) refl
@@ -133,7 +133,7 @@ first_behind {wrong = wrong} a l front rest joins whole ok =
 
 -- ---- the field at the front
 
-one_place : (f : WireField) (spelled : List ℕ) → Spells 100 f spelled → placed_fields spelled ≡ Ok (spelled_at 0 f spelled) ∷ []
+pub one_place : (f : WireField) (spelled : List ℕ) → Spells 100 f spelled → placed_fields spelled ≡ Ok (spelled_at 0 f spelled) ∷ []
 unfolding placed_fields
 one_place f spelled s =
     let some = some_of 100 f spelled s in

@@ -19,3 +19,4 @@ pub mod WellFormedValues
 pub mod Sizes
 pub mod Roundtrips
 pub mod Joining
+pub mod Lasts

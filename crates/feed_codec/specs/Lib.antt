@@ -7,3 +7,4 @@ pub mod Encoding
 pub mod EncodingLaws
 pub mod FirstFault
 pub mod Parts
+pub mod LastPayloads

@@ -26,6 +26,7 @@
 //! - `taking`: a number or a text into its slot
 //! - `unknown`: a field of no slot, with memory of its own
 //! - `paths`: whether a field is there, at a path of slots
+//! - `payloads`: the last payload of a slot
 //! - `room`: lists with the room that they need
 //! - `message`: any message, field by field
 //! - `checking`: the first fault of any message, but for required slots
@@ -57,6 +58,7 @@ mod message;
 mod missing;
 mod numbers;
 mod paths;
+mod payloads;
 mod refusal;
 mod room;
 mod snapshot;
@@ -68,6 +70,7 @@ mod unknown;
 mod vehicle_position;
 
 pub use canonical::encode;
+pub use checking::reason_of;
 pub use codec_fault::CodecFault;
 pub use encoding_laws::{
     accepted_is_well_formed, canonical_decides, canonical_means_value, encoded_decodes,
@@ -76,5 +79,6 @@ pub use encoding_laws::{
 pub use entity::{check_entity, check_header_part, decode_entity, decode_header};
 pub use header::check_header;
 pub use laws::{missing_is_first, parts_decide, refusal_is_first};
+pub use payloads::{last_payload, payload_of};
 pub use refusal::{Reason, Refusal, Required};
 pub use snapshot::{SNAPSHOT_LIMIT, check_snapshot, decode};

@@ -88,9 +88,7 @@ pub fn take_text(
     };
     match str::from_utf8(payload) {
         Ok(valid) => {
-            let mut text = Text::new(alloc);
-            text.push(valid)?;
-            *held = Some(text);
+            *held = Some(Text::of(alloc, valid)?);
             Ok(true)
         }
         Err(_) => Err(Stopped),

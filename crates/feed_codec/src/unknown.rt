@@ -7,14 +7,6 @@ use feed_values::{Raw, Unknown, UnknownValue};
 use rt_wire::{RawField, RawValue};
 use std::alloc::{AllocError, Global};
 
-fn raw_of(alloc: Global, bytes: &[u8]) -> Result<Raw, AllocError>
-    ensures { IfOk result (λ raw. raw ≡ bytes.now) }
-{
-    let mut raw = Raw::new(alloc);
-    raw.push(bytes)?;
-    Ok(raw)
-}
-
 /// A field with memory of its own.
 pub fn unknown_of(alloc: Global, field: &RawField<'_>) -> Result<Unknown, AllocError>
     ensures { IfOk result (λ unknown. unknown_field unknown ≡ (placed_field field.now).field) }
@@ -22,8 +14,8 @@ pub fn unknown_of(alloc: Global, field: &RawField<'_>) -> Result<Unknown, AllocE
     let value = match field.value {
         RawValue::Varint(n) => UnknownValue::Varint(n),
         RawValue::Fixed64(n) => UnknownValue::Fixed64(n),
-        RawValue::Len(payload) => UnknownValue::Len(raw_of(alloc, payload)?),
-        RawValue::Group(group) => UnknownValue::Group(raw_of(alloc, group)?),
+        RawValue::Len(payload) => UnknownValue::Len(Raw::of(alloc, payload)?),
+        RawValue::Group(group) => UnknownValue::Group(Raw::of(alloc, group)?),
         RawValue::Fixed32(n) => UnknownValue::Fixed32(n),
     };
     Ok(Unknown {

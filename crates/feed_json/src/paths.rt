@@ -13,9 +13,7 @@ pub fn text_of(alloc: Global, words: &str) -> Result<Text, AllocError>
     ensures text { IfOk result (λ text. text ≡ words.now) }
     ensures utf8 { IfOk result IsUtf8 }
 {
-    let mut text = Text::new(alloc);
-    text.push(words)?;
-    Ok(text)
+    Text::of(alloc, words)
 }
 
 /// The path of a place in what stands at a key.

@@ -32,9 +32,7 @@ fn raw_of(alloc: Global, bytes: &[u8]) -> Result<Raw, AllocError>
     ensures same { IfOk result (λ raw. raw ≡ bytes.now) }
     ensures bytes { IfOk result IsBytes }
 {
-    let mut raw = Raw::new(alloc);
-    raw.push(bytes)?;
-    Ok(raw)
+    Raw::of(alloc, bytes)
 }
 
 /// Bytes as an even number of hexadecimal digits, of either case.

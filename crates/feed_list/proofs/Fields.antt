@@ -1,7 +1,7 @@
 -- The three fields of a row.
 use Rattle.std.proofs.Common.{◌≡◌, ◌≢◌, ◌<◌, ℕ, zero, suc, List, [], ◌∷◌, length, Some, None, refl, arith}
 use Rattle.csv.specs.Records.{field_at}
-use Rattle.timetable.specs.Records.{Record}
+use Rattle.csv_records.specs.Records.{Record}
 use Rattle.feed_list.specs.Rows.{fields_in}
 
 three : (a b c d e f : List ℕ) → a ≡ d → b ≡ e → c ≡ f → fields_in (a ∷ b ∷ c ∷ []) ≡ Some (record { feed = d; moment = e; path = f })

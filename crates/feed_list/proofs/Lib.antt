@@ -1,5 +1,4 @@
 pub mod Fields
 pub mod ListRows
 pub mod Lists
-pub mod Numbers
 pub mod ReadFaults

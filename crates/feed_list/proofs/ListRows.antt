@@ -2,8 +2,8 @@
 use Rattle.std.proofs.Common.{◌≡◌, ◌≤◌, ◌<◌, ◌+◌, ◌⊎◌, inl, inr, ℕ, zero, suc, Bool, true, false, cond, List, [], ◌∷◌, length, Some, Result, Ok, Err, refl, sym, ap, subst, ◌∙◌, arith, nat_lt}
 use Rattle.std.specs.Prelude.{IsOk, slice_get}
 use Rattle.std.proofs.lemmas.Bool.Decides.{nat_tests}
-use Rattle.timetable.specs.Cells.{then_with}
-use Rattle.timetable.specs.Records.{Record}
+use Rattle.csv_records.specs.Results.{then_with}
+use Rattle.csv_records.specs.Records.{Record}
 use Rattle.feed_list.specs.declared.fault.ListFault.{ListFault}
 use Rattle.feed_list.specs.declared.fault.ListFault.TheVariants.{TooLarge}
 use Rattle.feed_list.specs.declared.row.ListRow.{ListRow}

@@ -3,8 +3,8 @@ use Rattle.std.proofs.Common.{◌≡◌, ◌≤◌, ◌<◌, ◌+◌, ℕ, suc, 
 use Rattle.std.specs.Prelude.{option_and_then, IfOk}
 use Rattle.std.specs.List.{AllByRecursion}
 use Rattle.std.proofs.lemmas.Bool.Decides.{nat_tests}
-use Rattle.timetable.specs.Cells.{ok_or, then_with}
-use Rattle.timetable.specs.Records.{Record}
+use Rattle.csv_records.specs.Results.{ok_or, then_with}
+use Rattle.csv_records.specs.Records.{Record}
 use Rattle.feed_list.specs.declared.column.Column.TheVariants.{Feed, Moment}
 use Rattle.feed_list.specs.declared.fault.ListFault.{ListFault}
 use Rattle.feed_list.specs.declared.fault.ListFault.TheVariants.{BadValue, NotThreeFields, TooLarge}

@@ -1,9 +1,9 @@
 -- Bytes in memory give no read fault.
 use Rattle.std.proofs.Common.{◌≡◌, ◌≢◌, ◌+◌, ℕ, List, Option, Some, None, Result, Ok, Err, IfErr, refl, subst, inl, inr}
 use Rattle.std.specs.Result.{IsErrOf}
-use Rattle.timetable.specs.Cells.{ok_or, then_with}
-use Rattle.timetable.specs.Fields.{text_of}
-use Rattle.timetable.specs.Records.{Record}
+use Rattle.csv_records.specs.Results.{ok_or, then_with}
+use Rattle.csv_records.specs.Texts.{text_of}
+use Rattle.csv_records.specs.Records.{Record}
 use Rattle.feed_list.specs.declared.column.Column.{Column}
 use Rattle.feed_list.specs.declared.column.Column.TheVariants.{Feed, Moment, Path}
 use Rattle.feed_list.specs.declared.fault.ListFault.{ListFault}

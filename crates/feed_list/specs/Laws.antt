@@ -1,6 +1,6 @@
 -- What a list holds, in words of its rows.
 use Rattle.std.specs.Prelude.{◌≡◌, ◌⊎◌, ◌≤◌, ◌<◌, ℕ, ◌+◌, List, length, Some, Ok, Err, IsOk, slice_get}
-use Rattle.timetable.specs.Records.{Record}
+use Rattle.csv_records.specs.Records.{Record}
 use Rattle.feed_list.specs.Lists.{list_of, row_limit}
 use Rattle.feed_list.specs.Rows.{row_of}
 use Rattle.feed_list.specs.declared.row.ListRow.{ListRow}

@@ -1,3 +1,4 @@
+pub use Rattle.csv_records.specs.Records
 pub mod Lists
 pub mod Rows
 pub mod Values

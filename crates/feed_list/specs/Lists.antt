@@ -1,8 +1,8 @@
 -- The list of snapshots that are followed, as it stands in its file. (RFC 4180; what a row says, and the limits, are this profile's.)
 use Rattle.std.specs.Prelude.{◌≤◌, ◌<◌, ℕ, ◌+◌, List, [], ◌∷◌, ◌++◌, length, nat_lt, Option, Some, None, Result, Ok, Err, if◌then◌else◌}
 use Rattle.std.specs.List.{AllByRecursion}
-use Rattle.timetable.specs.Cells.{then_with}
-use Rattle.timetable.specs.Records.{Record, records_of}
+use Rattle.csv_records.specs.Results.{then_with}
+use Rattle.csv_records.specs.Records.{Record, records_of}
 use Rattle.feed_list.specs.Rows.{row_of}
 use Rattle.feed_list.specs.declared.row.ListRow.{ListRow}
 use Rattle.feed_list.specs.declared.fault.ListFault.{ListFault}

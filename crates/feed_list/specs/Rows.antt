@@ -1,8 +1,8 @@
 -- A row of a list: a feed, a moment and the path of a snapshot. (This profile.)
 use Rattle.std.specs.Prelude.{ℕ, List, [], ◌∷◌, Option, Some, None, Result, Ok}
-use Rattle.timetable.specs.Cells.{ok_or, then_with}
-use Rattle.timetable.specs.Fields.{text_of}
-use Rattle.timetable.specs.Records.{Record}
+use Rattle.csv_records.specs.Results.{ok_or, then_with}
+use Rattle.csv_records.specs.Texts.{text_of}
+use Rattle.csv_records.specs.Records.{Record}
 use Rattle.feed_list.specs.Values.{feed_of, number_of, path_of}
 use Rattle.feed_list.specs.declared.column.Column.{Column}
 use Rattle.feed_list.specs.declared.column.Column.TheVariants.{Feed, Moment, Path}

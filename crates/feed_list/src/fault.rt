@@ -19,13 +19,13 @@ pub enum ListFault {
     #[error("too large")]
     TooLarge,
     /// The row hasn't three fields.
-    #[error("row {0}: not three fields")]
+    #[error("row {}: bad value in {}", .0, Column::Path.name())]
     NotThreeFields(u64),
     /// The field isn't UTF-8.
-    #[error("row {0}: {1:?} is not text")]
+    #[error("row {0}: not text")]
     NotText(u64, Column),
     /// The field isn't a value of its column.
-    #[error("row {0}: bad value in {1:?}")]
+    #[error("row {}: bad value in {}", .0, .1.name())]
     BadValue(u64, Column),
     /// The outside failed while the file was read.
     #[error("read fault")]

@@ -5,15 +5,16 @@
 //! or answers its first fault: the file isn't there; it is too large, in bytes or in rows; or the first row that isn't a
 //! row of a list, with its number from 1 and, where a field is to blame, the column.
 //!
-//! From the bottom up: `column` and `fault` are what faults are made of, `number` reads a number, here and on a command line, `row` reads a row,
-//! `rows` all rows of a file in memory, and `list` the file. `laws` says what a list holds in words of its rows.
+//! From the bottom up: `column` and `fault` are what faults are made of, `feed` reads the number of a feed, `row` a row, `rows` all
+//! rows of a file in memory, and `list` the file. `laws` says what a list holds in words of its rows. Numbers and paths are read as
+//! the words of a command line are, by `rt_words`.
 #![tactic(auto)]
 
 mod column;
 mod fault;
+mod feed;
 mod laws;
 mod list;
-mod number;
 mod row;
 mod rows;
 
@@ -21,5 +22,5 @@ pub use column::Column;
 pub use fault::ListFault;
 pub use laws::list_follows_its_rows;
 pub use list::read_list;
-pub use number::number_of;
-pub use row::{ListRow, is_path};
+pub use row::ListRow;
+pub use rt_words::{is_path, number_of};

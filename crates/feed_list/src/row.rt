@@ -1,23 +1,25 @@
 //! A row of a list.
 ghost use Rattle.std.specs.Prelude.{◌≡◌, ◌≢◌, Ok, Err, IfOk, IfErr, option_map};
 ghost use Rattle.csv.specs.Records.{fields_of};
-ghost use Rattle.timetable.specs.Texts.{texts};
+ghost use Rattle.csv_records.specs.Texts.{texts};
 ghost use Rattle.feed_list.specs.Rows.{fields_in, path_in, row_of, text_in, value_in};
-ghost use Rattle.feed_list.specs.Values.{feed_of, is_path, number_of};
+ghost use Rattle.feed_list.specs.Values.{feed_of, number_of};
 ghost use Rattle.feed_list.specs.Fields.{fields_held};
 ghost use Rattle.feed_list.specs.declared.column.Column.TheVariants.{Feed, Moment};
 ghost use Rattle.feed_list.specs.declared.fault.ListFault.TheVariants as fault;
 
 use crate::column::Column;
 use crate::fault::ListFault;
-use crate::number::{feed_of, number_of};
+use crate::feed::feed_of;
 use csv::ByteRecord;
+use csv_records::text_of;
 use feed_values::Text;
-use std::alloc::{AllocError, Global};
+use rt_words::{is_path, number_of};
+use std::alloc::Global;
 
 /// A snapshot that comes: the number of its feed, which is at most 15; the moment at which it came, as POSIX time in
 /// seconds; and the path of its file.
-#[derive(Debug, Drop)]
+#[derive(Drop)]
 pub struct ListRow {
     pub feed: u8,
     pub moment: u64,
@@ -63,9 +65,9 @@ fn fields_in(row: &ByteRecord) -> Option<RowFields<'_>>
 fn text_in(number: u64, column: Column, field: &[u8]) -> Result<&str, ListFault>
     ensures { texts result ≡ text_in number column field.now }
 {
-    match str::from_utf8(field) {
-        Ok(text) => Ok(text),
-        Err(_) => Err(ListFault::NotText(number, column)),
+    match text_of(field) {
+        Some(text) => Ok(text),
+        None => Err(ListFault::NotText(number, column)),
     }
 }
 
@@ -91,20 +93,5 @@ fn path_in(alloc: Global, number: u64, field: &[u8]) -> Result<Text, ListFault>
     if !is_path(text) {
         return Err(ListFault::BadValue(number, Column::Path));
     }
-    Ok(text_of(alloc, text)?)
-}
-
-/// Whether a text may be the path of a file: it isn't empty and doesn't begin with a dash.
-pub fn is_path(text: &str) -> bool
-    ensures { result ≡ is_path text.now }
-{
-    !text.is_empty() && text.as_bytes()[0] != b'-'
-}
-
-fn text_of(alloc: Global, text: &str) -> Result<Text, AllocError>
-    ensures { IfOk result (λ made. made ≡ text.now) }
-{
-    let mut made = Text::new(alloc);
-    made.push(text)?;
-    Ok(made)
+    Ok(Text::of(alloc, text)?)
 }

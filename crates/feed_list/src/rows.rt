@@ -1,15 +1,15 @@
 //! The rows of a list in memory.
 ghost use Rattle.std.specs.Prelude.{◌≡◌, ◌≢◌, ◌≤◌, ◌<◌, ◌^◌, ◌++◌, ◌∷◌, [], length, nat_lt, Ok, Err, IfOk, IfErr, OnOk};
 ghost use Rattle.std.specs.List.{AllByRecursion};
-ghost use Rattle.timetable.specs.Records.{records_of};
+ghost use Rattle.csv_records.specs.Records.{records_of};
 ghost use Rattle.feed_list.specs.Lists.{list_of, row_limit, rows_from, IsWithinLimits};
 ghost use Rattle.feed_list.specs.declared.fault.ListFault.TheVariants as fault;
 
 use crate::fault::ListFault;
 use crate::row::{ListRow, row_of};
+use csv_records::Records;
 use feed_values::Items;
 use std::alloc::{AllocError, Global};
-use timetable::Records;
 
 /// The most rows that a list has.
 const ROW_LIMIT: usize = 1_000_000;

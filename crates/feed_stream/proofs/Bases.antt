@@ -7,31 +7,23 @@ use Rattle.std.specs.Option.{option_map}
 use Rattle.rt_wire.specs.declared.fault.WireFault.{WireFault}
 use Rattle.rt_wire.specs.Fields.{WireField, Joins, Spells}
 use Rattle.rt_wire.specs.Placed.{PlacedField, moved, placed_fields, spelled_at}
-use Rattle.rt_wire.proofs.Complete.{field_reads, some_of}
-use Rattle.rt_wire.proofs.Stream.{left_field, left_none}
 use Rattle.rt_wire.proofs.Whole.{join_is_read, spelled_is_read}
 use Rattle.feed_values.specs.Meaning.{fields, given, in_slot, option_case, payload_in, whole_fields}
 use Rattle.feed_values.specs.Snapshot.{entity_payloads}
 use Rattle.feed_stream.specs.Laws.{EntitiesFollowFields, entities_in, entity_field}
 use Rattle.feed_stream.specs.Payloads.{Payload, entity_bases, payload_of, payloads_in}
+use Rattle.feed_codec.proofs.Firsts.{one_place}
 use Rattle.feed_stream.proofs.Payloads.{payloads_given}
-
-one_place : (f : WireField) (spelled : List ℕ) → Spells 100 f spelled → placed_fields spelled ≡ Ok (spelled_at 0 f spelled) ∷ []
-unfolding placed_fields
-one_place f spelled s =
-    let some = some_of 100 f spelled s in
-    left_field spelled 0 (spelled_at 0 f spelled) some (field_reads f spelled spelled 0 [] s (record { front = []; is = sym (append-nil spelled); place = refl })) (omega (arith, some)) (omega arith)
-    ∙ ap (λ (t : List (Result PlacedField WireFault)). Ok (spelled_at 0 f spelled) ∷ t) (left_none spelled (0 + length spelled) (omega arith))
 
 found_before : (o : Option Payload) (ps qs all : List Payload) → all ≡ ps ++ qs → option_case o all (λ p. p ∷ all) ≡ option_case o ps (λ p. p ∷ ps) ++ qs
 found_before None ps qs all e = e
 found_before (Some p) ps qs all e = ap (λ (l : List Payload). p ∷ l) e
 
 -- the payloads of whole fields, and then of what stands behind them
-payloads_behind : (places : List PlacedField) (tail : List (Result PlacedField WireFault)) → payloads_in 2 (map (λ p. Ok p) places ++ tail) ≡ payloads_in 2 (map (λ p. Ok p) places) ++ payloads_in 2 tail
-payloads_behind [] tail = refl
-payloads_behind (p ∷ places) tail =
-    found_before (payload_of 2 p) (payloads_in 2 (map (λ p. Ok p) places)) (payloads_in 2 tail) (payloads_in 2 (map (λ p. Ok p) places ++ tail)) (payloads_behind places tail)
+pub payloads_behind : (n : ℕ) (places : List PlacedField) (tail : List (Result PlacedField WireFault)) → payloads_in n (map (λ p. Ok p) places ++ tail) ≡ payloads_in n (map (λ p. Ok p) places) ++ payloads_in n tail
+payloads_behind n [] tail = refl
+payloads_behind n (p ∷ places) tail =
+    found_before (payload_of n p) (payloads_in n (map (λ p. Ok p) places)) (payloads_in n tail) (payloads_in n (map (λ p. Ok p) places ++ tail)) (payloads_behind n places tail)
 
 whole_places : (places : List PlacedField) → whole_fields (map (λ p. Ok p) places) ≡ map (λ p. p.field) places
 whole_places [] = refl
@@ -69,7 +61,7 @@ found l front payload spelled more joins s =
       before = payloads_in 2 (map (λ p. Ok p) h.places);
       after = payloads_in 2 (map (moved (length front)) tail);
       many = payloads_many h.places l h.fields;
-      all = ap (payloads_in 2) there ∙ payloads_behind h.places (map (moved (length front)) (Ok (spelled_at 0 f spelled) ∷ tail));
+      all = ap (payloads_in 2) there ∙ payloads_behind 2 h.places (map (moved (length front)) (Ok (spelled_at 0 f spelled) ∷ tail));
     }
 
 part_at : {A : Type 0} (view : Payload → A) (before after : List Payload) (p : Payload) (all : List Payload) (n : ℕ) → all ≡ before ++ p ∷ after → length before ≡ n → slice_get (map view all) n ≡ Some (view p)

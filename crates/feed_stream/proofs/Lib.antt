@@ -1,6 +1,11 @@
 pub mod Payloads
-pub mod Layouts
 pub mod Passing
 pub mod Bases
 pub mod Entities
 pub mod Headers
+pub mod Layouts
+pub mod Settled
+pub mod Walked
+pub mod Ends
+pub mod Feeding
+pub mod Ids

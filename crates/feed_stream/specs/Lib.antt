@@ -3,3 +3,9 @@ pub mod Parts
 pub mod Layouts
 pub mod Held
 pub mod Laws
+pub mod Ends
+pub mod Settled
+pub mod Walks
+pub mod Sofar
+pub mod Came
+pub mod Inside

@@ -1,7 +1,8 @@
 -- The payloads in a snapshot, and where they begin in its bytes.
 -- (Protocol Buffers, Encoding, "Message Structure"; GTFS Realtime Reference 2.0, "FeedMessage".)
-use Rattle.std.specs.Prelude.{ℕ, List, [], ◌∷◌, map, Option, Result, Ok, Err}
+use Rattle.std.specs.Prelude.{ℕ, List, [], ◌∷◌, map, Option, Some, None, Result, Ok, Err}
 use Rattle.std.specs.Option.{option_map}
+use Rattle.std.specs.List.{concat}
 use Rattle.rt_wire.specs.declared.fault.WireFault.{WireFault}
 use Rattle.rt_wire.specs.Placed.{PlacedField, placed_fields}
 use Rattle.feed_values.specs.Meaning.{fields, given, in_slot, payload_in, option_case}
@@ -28,3 +29,8 @@ entity_bases bytes = map (λ p. p.base) (payloads_in 2 (placed_fields bytes))
 -- the payloads of a snapshot's header, in order
 abbrev pub header_payloads : List ℕ → List (List ℕ)
 header_payloads bytes = given (in_slot payload_in 1) (fields bytes)
+
+-- payloads of a header, joined, where there is one
+abbrev pub joined_header : List (List ℕ) → Option (List ℕ)
+joined_header [] = None
+joined_header (p ∷ ps) = Some (concat (p ∷ ps))

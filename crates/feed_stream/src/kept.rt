@@ -1,20 +1,24 @@
 //! An accepted snapshot.
-ghost use Rattle.std.specs.Prelude.{◌≡◌, ◌<◌, length, take, drop, Some, None, IfSome, IfOk, slice_get};
+ghost use Rattle.std.specs.Prelude.{◌≡◌, ◌<◌, [], length, take, drop, Some, None, IfSome, slice_get};
 ghost use Rattle.std.specs.List.{concat};
 ghost use Rattle.rt_wire.specs.Fields.{IsBytes};
 ghost use Rattle.feed_values.specs.Accepted.{IsAccepted};
 ghost use Rattle.feed_values.specs.Messages.{feed_header};
 ghost use Rattle.feed_values.specs.Meaning.{fields, meaning};
-ghost use Rattle.feed_values.specs.Snapshot.{entity_payloads, header_of};
+ghost use Rattle.feed_values.specs.Snapshot.{entity_of, entity_payloads, header_of};
 ghost use Rattle.feed_codec.specs.Refusal.{entity_fault, refusal};
 ghost use Rattle.feed_codec.specs.Parts.{IsJoined};
+ghost use Rattle.feed_codec.specs.LastPayloads.{last_at};
+ghost use Rattle.feed_stream.specs.Layouts.{IsLayout};
 ghost use Rattle.feed_stream.specs.Payloads.{entity_bases, header_payloads};
 ghost use Rattle.feed_stream.specs.Parts.{IsWithin, part_bytes};
 
 use crate::layout::Layout;
+use crate::numbers::ID;
 use crate::part::Part;
-use std::alloc::{AllocError, Global};
+use feed_codec::last_payload;
 use std::marker::Model;
+use std::str;
 
 /// An accepted snapshot, which contracts see as its bytes.
 ///
@@ -37,14 +41,30 @@ impl Model for Kept {
     ghost invariant = { IsKept };
 }
 
+/// The id in an entity that passes.
+fn id_in(entity: &[u8]) -> &str
+    requires { entity_fault entity.now ≡ None }
+    ensures id { result.now ≡ (entity_of entity.now).0 }
+    ensures field { last_at [] 1 (fields entity.now) ≡ Some result.now }
+{
+    let Some(id) = last_payload(entity, ID) else {
+        unreachable!();
+    };
+    match str::from_utf8(id) {
+        Ok(text) => text,
+        Err(_) => unreachable!(),
+    }
+}
+
 impl Kept {
-    /// The snapshot of these bytes.
-    pub(crate) fn new(alloc: Global, bytes: Vec<u8>) -> Result<Kept, AllocError>
-        requires { refusal bytes.items ≡ None }
-        ensures { IfOk result (λ kept. kept ≡ bytes.items) }
+    /// The snapshot of these bytes, whose layout is known. It takes no memory.
+    pub(crate) fn of(bytes: Vec<u8>, layout: Layout) -> Kept
+        requires bytes { IsBytes bytes.items }
+        requires accepted { refusal bytes.items ≡ None }
+        requires layout { IsLayout bytes.items layout }
+        ensures { result ≡ bytes.items }
     {
-        let layout = Layout::of(alloc, &bytes)?;
-        Ok(Kept { bytes, layout })
+        Kept { bytes, layout }
     }
 
     /// The bytes of the snapshot, which is accepted.
@@ -71,6 +91,16 @@ impl Kept {
     {
         let part = self.part(i);
         &self.bytes[part.start..part.end]
+    }
+
+    /// The id of entity `i`, counted from 0: the text of its last id field, which is a part of `bytes`.
+    /// (GTFS Realtime Reference 2.0, "FeedEntity"; Protocol Buffers, Encoding, "Last One Wins".)
+    pub fn entity_id(&self, i: usize) -> &str
+        requires { i < length (entity_payloads self.now) }
+        ensures id { IfSome (slice_get (entity_payloads self.now) i) (λ payload. result.now ≡ (entity_of payload).0) }
+        ensures field { IfSome (slice_get (entity_payloads self.now) i) (λ payload. last_at [] 1 (fields payload) ≡ Some result.now) }
+    {
+        id_in(self.entity(i))
     }
 
     /// The place in `bytes` where the payload of entity `i` begins, from which a fault inside it is counted.

@@ -1,70 +1,165 @@
 //! A snapshot that arrives in pieces.
-ghost use Rattle.std.specs.Prelude.{◌≡◌, [], ◌++◌, length, nat_lt, IfOk, Err, None};
+ghost use Rattle.std.specs.Prelude.{◌≡◌, ◌++◌, ◌≤◌, ◌<◌, [], ℕ, List, length, nat_lt, IfOk, Err, None};
 ghost use Rattle.feed_values.specs.Accepted.{snapshot_limit};
-ghost use Rattle.feed_codec.specs.Refusal.{refusal};
+ghost use Rattle.feed_codec.specs.Refusal.{refused, refusal};
+ghost use Rattle.feed_codec.specs.declared.refusal.Reason.TheVariants.{TooLarge};
 ghost use Rattle.feed_codec.specs.Decoded.{Decodes};
 ghost use Rattle.feed_codec.specs.declared.codec_fault.CodecFault.TheVariants.{Memory};
+ghost use Rattle.feed_stream.specs.Came.{Came};
+ghost use Rattle.feed_stream.specs.Inside.{IsFound, IsWalk, sofar};
 
 use crate::kept::Kept;
-use feed_codec::{CodecFault, SNAPSHOT_LIMIT, check_snapshot};
+use crate::layout::Layout;
+use crate::walking::{Reached, Through, go_through, refusal_of};
+use feed_codec::{CodecFault, Reason, Refusal, SNAPSHOT_LIMIT};
 use std::alloc::{AllocError, Global};
 use std::marker::Model;
 
-/// A snapshot of which some pieces have come, which contracts see as their join.
+/// Bytes, and how far they were gone through.
+#[derive(Drop)]
+pub struct Walk {
+    pub bytes: Vec<u8>,
+    pub reached: Reached,
+}
+
+/// What is held of what came: why it is refused whatever comes next, and how many bytes came; or all bytes.
+#[derive(Drop)]
+pub enum Found {
+    Refused(Refusal, usize),
+    Walked(Walk),
+}
+
+/// What more than 67,108,864 bytes are refused for.
+fn too_large() -> Refusal
+    ensures { result ≡ refused snapshot_limit TooLarge }
+{
+    Refusal::new(SNAPSHOT_LIMIT, Reason::TooLarge)
+}
+
+/// Goes on with the next piece.
+fn walk_on(alloc: Global, walk: Walk, piece: &[u8]) -> Result<Found, AllocError>
+    requires { IsWalk walk }
+    ensures found { IfOk result IsFound }
+    ensures came { IfOk result (λ found. Came (walk.bytes.items ++ piece.now) (sofar found)) }
+{
+    let count = walk.bytes.len().saturating_add(piece.len());
+    if count > SNAPSHOT_LIMIT {
+        return Ok(Found::Refused(too_large(), count));
+    }
+    let Walk { bytes, reached } = walk;
+    let Reached {
+        next,
+        layout,
+        front,
+        ..
+    } = reached;
+    let mut bytes = bytes;
+    bytes.extend_from_slice(piece)?;
+    match go_through(alloc, &bytes, next, layout, front)? {
+        Through::Stopped(reached) => Ok(Found::Walked(Walk { bytes, reached })),
+        Through::Refused(refusal) => Ok(Found::Refused(refusal, count)),
+    }
+}
+
+/// The snapshot that was gone through, or its first fault. Bytes that end too early are refused for that, and else the header is asked.
+fn end_of(walk: Walk) -> Result<Kept, CodecFault>
+    requires { IsWalk walk }
+    ensures answer { Decodes (λ kept. kept) result (refusal walk.bytes.items) walk.bytes.items }
+    ensures memory { result ≡ Err Memory → ⊥ }
+{
+    let Walk { bytes, reached } = walk;
+    if let Some(fault) = reached.unfinished {
+        return Err(CodecFault::Refused(refusal_of(fault)));
+    }
+    match reached.layout.header.check(&bytes) {
+        Ok(()) => Ok(Kept::of(bytes, reached.layout)),
+        Err(refusal) => Err(CodecFault::Refused(refusal)),
+    }
+}
+
+/// A snapshot of which some pieces have come.
 ///
-/// How the bytes are cut into pieces makes no difference, and a piece may be empty.
+/// How the bytes are cut into pieces makes no difference, and a piece may be empty. Each field is gone through once, a payload when it
+/// is whole. A fault that no further byte can mend refuses the snapshot at once: from then on bytes are counted and not held, so that
+/// what a splitter stands for is said of every byte list that may have come (`Came`).
 #[derive(Drop)]
 pub struct Splitter {
     alloc: Global,
-    bytes: Vec<u8>,
+    found: Found,
 }
 
 impl Model for Splitter {
-    ghost use Rattle.std.specs.Prelude.{List, ℕ};
+    ghost use Rattle.feed_stream.specs.Sofar.{Sofar};
 
-    ghost Value = { List ℕ };
+    ghost Value = { Sofar };
 
-    ghost view = { λ s. s.bytes.items };
+    ghost use Rattle.feed_stream.specs.Inside.{IsFound, sofar};
+
+    ghost view = { λ s. sofar s.found };
+
+    ghost invariant = { λ s. IsFound s.found };
 }
 
 impl Splitter {
     /// No pieces so far. It takes no memory.
     pub fn new(alloc: Global) -> Splitter
-        ensures { result ≡ [] }
+        ensures came { Came [] result }
+        ensures count { result.count ≡ 0 }
     {
         Splitter {
             alloc,
-            bytes: Vec::new(alloc),
+            found: Found::Walked(Walk {
+                bytes: Vec::new(alloc),
+                reached: Reached {
+                    next: 0,
+                    layout: Layout::new(alloc),
+                    front: None,
+                    unfinished: None,
+                },
+            }),
         }
     }
 
     /// Takes the next piece. After want of memory the splitter is gone.
     pub fn feed(self, piece: &[u8]) -> Result<Splitter, AllocError>
-        ensures { IfOk result (λ fed. fed ≡ self ++ piece.now) }
+        ensures came { IfOk result (λ fed. (b : List ℕ) → Came b self → Came (b ++ piece.now) fed) }
+        ensures grows { 0 < length piece.now → self.count ≤ snapshot_limit → IfOk result (λ fed. self.count < fed.count) }
     {
-        let mut bytes = self.bytes;
-        bytes.extend_from_slice(piece)?;
-        Ok(Splitter {
-            alloc: self.alloc,
-            bytes,
-        })
+        let Splitter { alloc, found } = self;
+        let found = match found {
+            Found::Refused(refusal, count) => {
+                Found::Refused(refusal, count.saturating_add(piece.len()))
+            }
+            Found::Walked(walk) => walk_on(alloc, walk, piece)?,
+        };
+        Ok(Splitter { alloc, found })
     }
 
     /// Whether more than 67,108,864 bytes came, so that the snapshot is refused as `TooLarge` whatever comes next.
     pub fn is_full(&self) -> bool
-        ensures { result ≡ nat_lt snapshot_limit (length self.now) }
+        ensures count { result ≡ nat_lt snapshot_limit self.now.count }
+        ensures came { (b : List ℕ) → Came b self.now → result ≡ nat_lt snapshot_limit (length b) }
     {
-        self.bytes.len() > SNAPSHOT_LIMIT
+        match &self.found {
+            Found::Refused(_, count) => *count > SNAPSHOT_LIMIT,
+            Found::Walked(walk) => walk.bytes.len() > SNAPSHOT_LIMIT,
+        }
     }
 
-    /// The snapshot that the pieces make, or its first fault, which is that of `decode`.
+    /// The snapshot that the pieces make, or its first fault, which is that of `decode`. It takes no memory.
     ///
-    /// `Memory` is answered only where the snapshot is accepted.
+    /// More than 67,108,864 bytes are `TooLarge`, whatever they hold.
     pub fn finish(self) -> Result<Kept, CodecFault>
-        ensures answer { Decodes (λ kept. kept) result (refusal self) self }
-        ensures memory { result ≡ Err Memory → refusal self ≡ None }
+        ensures answer { (b : List ℕ) → Came b self → Decodes (λ kept. kept) result (refusal b) b }
+        ensures memory { result ≡ Err Memory → ⊥ }
     {
-        check_snapshot(&self.bytes)?;
-        Ok(Kept::new(self.alloc, self.bytes)?)
+        let Splitter { found, .. } = self;
+        match found {
+            Found::Refused(_, count) if count > SNAPSHOT_LIMIT => {
+                Err(CodecFault::Refused(too_large()))
+            }
+            Found::Refused(refusal, _) => Err(CodecFault::Refused(refusal)),
+            Found::Walked(walk) => end_of(walk),
+        }
     }
 }

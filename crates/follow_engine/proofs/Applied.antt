@@ -4,10 +4,10 @@ use Rattle.std.specs.List.{flat_map}
 use Rattle.std.proofs.Common.{sym, subst, arith}
 use Rattle.feed_values.specs.Snapshot.{entity_payloads}
 use Rattle.timetable.specs.Timetables.{Tables}
-use Rattle.rule_core.specs.History.{Snapshot, feed_limit, feed_limit-is}
-use Rattle.rule_core.specs.Changed.{with}
-use Rattle.rule_core.specs.Groups.{Each}
-use Rattle.rule_core.specs.Pairs.{PairRow}
+use Rattle.rule_history.specs.History.{Snapshot, feed_limit, feed_limit-is}
+use Rattle.rule_history.specs.Changed.{with}
+use Rattle.rule_table.specs.Groups.{Each}
+use Rattle.rule_table.specs.Pairs.{PairRow}
 use Rattle.engine_laws.specs.Delta.{Delta, IsDelta}
 use Rattle.engine_laws.specs.HeldFeeds.{KeyedLists, HeldFeed, AreOn, AreUnder, AreApart, feed_at, data_of, rows_held, entities_found, opened_in, closed_in}
 use Rattle.engine_laws.specs.Standings.{StandsFor, findings_of}

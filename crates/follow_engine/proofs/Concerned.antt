@@ -4,16 +4,16 @@ use Rattle.std.specs.List.{list_any}
 use Rattle.std.proofs.Common.{sym, ap, ◌∙◌}
 use Rattle.feed_values.specs.Schema.{Value}
 use Rattle.feed_values.specs.Messages.{entity, trip_update, vehicle_position}
-use Rattle.rule_core.specs.declared.key.EntityKey.{EntityKey}
-use Rattle.rule_core.specs.declared.kind.Kind.TheVariants.{TripUpdate, Vehicle}
-use Rattle.rule_core.specs.Judged.{update_of}
-use Rattle.rule_core.specs.Pairs.{PairRow, rows_of, update_rows, vehicle_rows, vehicle_of, shares_id, shares}
-use Rattle.rule_core.specs.Changed.{changed_rows, turns, other, is_paired}
+use Rattle.rule_table.specs.declared.key.EntityKey.{EntityKey}
+use Rattle.rule_table.specs.declared.kind.Kind.TheVariants.{TripUpdate, Vehicle}
+use Rattle.rule_table.specs.Judged.{update_of}
+use Rattle.rule_table.specs.Pairs.{PairRow, rows_of, update_rows, vehicle_rows, vehicle_of, shares_id, shares}
+use Rattle.rule_history.specs.Changed.{changed_rows, turns, other, is_paired}
 use Rattle.pairing_rules.proofs.Lists.{any-or}
 use Rattle.engine_laws.proofs.Lists.{every}
 use Rattle.follow_engine.specs.declared.changes.ChangedIds.{ChangedIds}
 use Rattle.follow_engine.specs.declared.changes.Changes.{Changes}
-use Rattle.follow_engine.specs.Ids.{of_update, of_vehicle, update_ids, vehicle_ids}
+use Rattle.rule_table.specs.Ids.{of_update, of_vehicle, update_ids, vehicle_ids}
 use Rattle.follow_engine.specs.Changes.{has_given, shared, is_concerned}
 use Rattle.follow_engine.specs.GivesIds.{GiveIds, TellChanges}
 use Rattle.follow_engine.proofs.RowsAt.{any-append, any_none}

@@ -1,7 +1,7 @@
 -- Lists of lists, one after the other.
 use Rattle.std.proofs.Common.{◌≡◌, refl, List, [], ◌∷◌, ◌++◌, map, sym, ap, ◌∙◌, append_assoc}
 use Rattle.std.specs.List.{flat_map}
-use Rattle.rule_core.specs.Standing.{Standing}
+use Rattle.rule_history.specs.Standing.{Standing}
 use Rattle.engine_laws.specs.HeldFeeds.{KeyedLists, HeldFeed, feed_list}
 use Rattle.follow_engine.specs.Left.{feed_lists, flat}
 

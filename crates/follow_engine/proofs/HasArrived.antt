@@ -4,14 +4,14 @@ use Rattle.std.proofs.Common.{sym, ◌∙◌, ap, subst, arith, eq-eqb, set}
 use Rattle.std.proofs.lemmas.List.{get_or-set_same, get_or-set_other, length-map, length-set}
 use borrow.Author.Tests.{eqb-true}
 use Rattle.feed_values.specs.Snapshot.{entity_of}
-use Rattle.rule_core.specs.declared.kind.Kind.{Kind}
-use Rattle.rule_core.specs.declared.kind.Kind.TheVariants.{TripUpdate, Vehicle}
-use Rattle.rule_core.specs.Groups.{Each}
-use Rattle.rule_core.specs.GroupLaws.{each_append, each_weaken}
-use Rattle.rule_core.specs.Pairs.{rows_of, any_row}
-use Rattle.rule_core.specs.History.{Snapshot, Keyed, entities_of_snapshot, feed_limit-is}
-use Rattle.rule_core.specs.Answered.{rows_in}
-use Rattle.rule_core.specs.Changed.{changed_rows, differ}
+use Rattle.rule_table.specs.declared.kind.Kind.{Kind}
+use Rattle.rule_table.specs.declared.kind.Kind.TheVariants.{TripUpdate, Vehicle}
+use Rattle.rule_table.specs.Groups.{Each}
+use Rattle.rule_table.specs.GroupLaws.{each_append, each_weaken}
+use Rattle.rule_table.specs.Pairs.{rows_of, any_row}
+use Rattle.rule_history.specs.History.{Snapshot, Keyed, entities_of_snapshot, feed_limit-is}
+use Rattle.rule_history.specs.Answered.{rows_in}
+use Rattle.rule_history.specs.Changed.{changed_rows, differ}
 use Rattle.engine_laws.specs.HeldFeeds.{HeldFeed, IsLastOf, feed_at, rows_held}
 use Rattle.engine_laws.proofs.Places.{flat-below}
 use Rattle.follow_engine.specs.declared.arrival.Arrival.{Arrival}

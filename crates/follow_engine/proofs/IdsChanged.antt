@@ -6,13 +6,13 @@ use Rattle.std.specs.Map.{lookup}
 use Rattle.std.proofs.Common.{sym, ap, ◌∙◌}
 use Rattle.feed_values.specs.Snapshot.{entity_of}
 use Rattle.feed_values.specs.Views.{entity_value}
-use Rattle.rule_core.specs.declared.key.EntityKey.{EntityKey}
-use Rattle.rule_core.specs.Order.{key_cmp}
-use Rattle.rule_core.specs.Groups.{Each}
-use Rattle.rule_core.specs.Pairs.{PairRow, is_id, has_row}
-use Rattle.rule_core.specs.History.{Snapshot, Keyed, entities_in}
-use Rattle.rule_core.specs.Answered.{rows_in, payload_under}
-use Rattle.rule_core.specs.Changed.{changed_rows}
+use Rattle.rule_table.specs.declared.key.EntityKey.{EntityKey}
+use Rattle.rule_table.specs.Order.{key_cmp}
+use Rattle.rule_table.specs.Groups.{Each}
+use Rattle.rule_table.specs.Pairs.{PairRow, is_id, has_row}
+use Rattle.rule_history.specs.History.{Snapshot, Keyed, entities_in}
+use Rattle.rule_history.specs.Answered.{rows_in, payload_under}
+use Rattle.rule_history.specs.Changed.{changed_rows}
 use Rattle.engine_laws.specs.HeldFeeds.{AreApart}
 use Rattle.engine_laws.proofs.Sorted.{entities_rise, apart_rising}
 use Rattle.follow_engine.specs.declared.seat.Seat.{Seat}

@@ -6,71 +6,47 @@ use Rattle.std.specs.declared.cmp.Ordering.{Ordering}
 use Rattle.std.specs.declared.cmp.Ordering.TheVariants.{Less}
 use Rattle.std.specs.BTreeMap.{insert_entry}
 use Rattle.std.proofs.Common.{sym, ap, ◌∙◌, subst, append_assoc}
-use Rattle.feed_values.specs.declared.cell_value.CellValue.{CellValue}
-use Rattle.feed_values.specs.declared.slot.Slot.{Slot}
-use Rattle.feed_values.specs.declared.slot.Slot.TheVariants.{S3}
 use Rattle.feed_values.specs.Schema.{Value}
 use Rattle.feed_values.specs.Messages.{feed_header, entity}
-use Rattle.feed_values.specs.Snapshot.{header_of, timestamp_of, entity_of}
+use Rattle.feed_values.specs.Snapshot.{header_of, entity_of}
 use Rattle.timetable.specs.Timetables.{Tables}
-use Rattle.rule_core.specs.declared.ask.Ask.{Ask}
-use Rattle.rule_core.specs.declared.ask.Ask.TheVariants as ask
-use Rattle.rule_core.specs.declared.key.EntityKey.{EntityKey}
-use Rattle.rule_core.specs.Table.{all_rules}
-use Rattle.rule_core.specs.Found.{Found}
-use Rattle.rule_core.specs.Groups.{Each}
-use Rattle.rule_core.specs.Pairs.{PairRow}
-use Rattle.rule_core.specs.Order.{key_cmp}
-use Rattle.rule_core.specs.History.{Snapshot, Keyed, entities_in, ordered_after}
-use Rattle.rule_core.specs.Answered.{Heads, heads_answer, heads_of, entity_answer, limit_answer, timetable_answer, rows_answer, entities_differ}
-use Rattle.rule_core.specs.Standing.{Standing, opened}
+use Rattle.rule_table.specs.declared.ask.Ask.{Ask}
+use Rattle.rule_table.specs.declared.key.EntityKey.{EntityKey}
+use Rattle.rule_table.specs.Table.{all_rules}
+use Rattle.rule_table.specs.Sources.{source_of}
+use Rattle.rule_table.specs.Same.{all_same}
+use Rattle.rule_table.specs.SameHeads.{heads_same}
+use Rattle.rule_table.specs.Found.{Found}
+use Rattle.rule_table.specs.Groups.{Each}
+use Rattle.rule_table.specs.Pairs.{PairRow}
+use Rattle.rule_table.specs.Order.{key_cmp}
+use Rattle.rule_history.specs.History.{Snapshot, Keyed, entities_in, ordered_after}
+use Rattle.rule_table.specs.Answers.{heads_answer, entity_answer, rows_answer}
+use Rattle.rule_history.specs.Answered.{heads_of, timetable_answer, entities_differ}
+use Rattle.rule_history.specs.Standing.{Standing, opened}
 use Rattle.judging.specs.Whole as whole
 use Rattle.follow_engine.specs.declared.seat.Seat.{Seat}
 use Rattle.follow_engine.specs.Seated.{Seats, seat_payload, keyed_seats, AreSeats}
 use Rattle.follow_engine.specs.Found.{found_at, found_seats}
-use Rattle.engine_laws.specs.Groups.{Source, OfHeads, head_source, cite_source}
 use Rattle.engine_laws.specs.Order.{found_cmp, Rises}
 use Rattle.engine_laws.specs.HeldFeeds.{KeyedLists, head_found, held_answer, entity_found, entities_found, list_under, renewed_lists}
 use Rattle.engine_laws.specs.Standings.{findings_of, renewed}
 use Rattle.engine_laws.proofs.Ascending.{feed_ascends}
 use Rattle.engine_laws.proofs.Since.{findings-renewed}
 use Rattle.engine_laws.proofs.Sorted.{Rising, entities_rise, ordered-rising}
-use Rattle.engine_laws.proofs.Sources.{source_of, on_header, is_head_ask, all_same, head_same, facts_at_entity, facts_on_header}
+use Rattle.engine_laws.proofs.AtHand.{heads_first, is_held, heads_limits}
 
 -- ---- on a header
-heads_first : (heads : Heads) (x : Option CellValue) (a : Ask) → is_head_ask a ≡ true → option_or (heads_answer heads a) x ≡ heads_answer heads a
-heads_first heads x (ask.HeadNow q) h = refl
-heads_first heads x (ask.HeadBefore q) h = refl
-heads_first heads x ask.Moment h = refl
-heads_first heads x ask.EntitiesChanged h = refl
-heads_first heads x _ h = cc
-
 pub header_is : (t : Option Tables) (u : List PairRow) (s : Snapshot) (b : Option Snapshot) → whole.header_found t u (heads_of s b) s.feed ≡ head_found s b
 unfolding whole.header_found
 header_is t u s b =
-    head_same (whole.feed_answer t u (heads_of s b)) (heads_answer (heads_of s b)) on_header s.feed
-    (facts_on_header (whole.feed_answer t u (heads_of s b)) (heads_answer (heads_of s b)) (λ a m. heads_first (heads_of s b) _ a m) s.feed) all_rules refl
+    heads_same (whole.feed_answer t u (heads_of s b)) (heads_answer (heads_of s b)) (λ a m. heads_first (heads_of s b) _ a m) s.feed all_rules refl
 
 -- ---- at an entity
-abbrev is_held : Source → Bool
-is_held OfHeads = false
-is_held _ = true
-
-stamp_alone : (s : Snapshot) (b : Option Snapshot) (q : Slot) → is_held (head_source q) ≡ true → heads_answer (heads_of s b) (ask.HeadNow q) ≡ limit_answer (timestamp_of (header_of s.bytes)) s.moment (ask.HeadNow q)
-stamp_alone s b S3 h = refl
-stamp_alone s b _ h = cc
-
-heads_limits : (s : Snapshot) (b : Option Snapshot) (a : Ask) → is_held (source_of a) ≡ true → heads_answer (heads_of s b) a ≡ limit_answer (timestamp_of (header_of s.bytes)) s.moment a
-heads_limits s b (ask.HeadNow q) h = stamp_alone s b q h
-heads_limits s b (ask.HeadBefore q) h = cc
-heads_limits s b ask.EntitiesChanged h = cc
-heads_limits s b _ h = refl
-
 pub entity_is : (t : Option Tables) (u : List PairRow) (s : Snapshot) (b : Option Snapshot) (k : EntityKey) (p : List ℕ) → whole.entity_found t u (heads_of s b) k (entity_of p) ≡ entity_found t u s (k, p)
 unfolding whole.entity_found
 entity_is t u s b k p =
-    all_same (whole.whole_answer t u (heads_of s b) k (entity_of p)) (held_answer t u s k (entity_of p)) (λ c. is_held (cite_source c)) k (entity_of p)
-    (λ path. facts_at_entity (whole.whole_answer t u (heads_of s b) k (entity_of p)) (held_answer t u s k (entity_of p)) is_held agree k path) all_rules refl
+    all_same is_held (whole.whole_answer t u (heads_of s b) k (entity_of p)) (held_answer t u s k (entity_of p)) agree all_rules refl k (entity_of p)
   where
     agree : (a : Ask) → is_held (source_of a) ≡ true → whole.whole_answer t u (heads_of s b) k (entity_of p) a ≡ held_answer t u s k (entity_of p) a
     agree a m = ap (λ x. option_or (entity_answer k (entity_of p) a) (option_or x (option_or (timetable_answer t a) (rows_answer u a)))) (heads_limits s b a m)

@@ -11,7 +11,6 @@ pub mod Nexts
 pub mod RowsOfAll
 pub mod Applied
 pub mod TextSets
-pub mod FactsEnd
 pub mod SeatValues
 pub mod IdsChanged
 pub mod OneRoom

@@ -7,12 +7,12 @@ use Rattle.std.proofs.lemmas.List.{length-map}
 use borrow.Author.Tests.{eqb-true}
 use Rattle.feed_values.specs.Snapshot.{entity_payloads, entity_of}
 use Rattle.timetable.specs.Timetables.{Tables}
-use Rattle.rule_core.specs.Groups.{Each}
-use Rattle.rule_core.specs.GroupLaws.{each_weaken}
-use Rattle.rule_core.specs.Pairs.{PairRow, rows_of}
-use Rattle.rule_core.specs.History.{Snapshot, Keyed, entities_in, entities_of_snapshot, below, feed_limit, feed_limit-is}
-use Rattle.rule_core.specs.Answered.{rows_in}
-use Rattle.rule_core.specs.Changed.{is_paired, count_of}
+use Rattle.rule_table.specs.Groups.{Each}
+use Rattle.rule_table.specs.GroupLaws.{each_weaken}
+use Rattle.rule_table.specs.Pairs.{PairRow, rows_of}
+use Rattle.rule_history.specs.History.{Snapshot, Keyed, entities_in, entities_of_snapshot, below, feed_limit, feed_limit-is}
+use Rattle.rule_history.specs.Answered.{rows_in}
+use Rattle.rule_history.specs.Changed.{is_paired, count_of}
 use Rattle.engine_laws.specs.Delta.{Delta, IsChange, is_new, is_limited}
 use Rattle.engine_laws.specs.HeldFeeds.{KeyedLists, HeldFeed, IsLastOf, feed_at, rows_held, head_found, entities_found, renewed_lists, IsNext, opened_in, closed_in}
 use Rattle.engine_laws.specs.Standings.{renewed}

@@ -1,9 +1,9 @@
 -- One feed more.
 use Rattle.std.specs.Prelude.{◌≡◌, ℕ, ◌+◌, List, [], ◌∷◌, ◌++◌, map, Option, Some}
 use Rattle.timetable.specs.Timetables.{Tables}
-use Rattle.rule_core.specs.Pairs.{PairRow}
-use Rattle.rule_core.specs.History.{Snapshot}
-use Rattle.rule_core.specs.Standing.{Standing}
+use Rattle.rule_table.specs.Pairs.{PairRow}
+use Rattle.rule_history.specs.History.{Snapshot}
+use Rattle.rule_history.specs.Standing.{Standing}
 use Rattle.std.specs.List.{flat_map}
 use Rattle.std.proofs.Common.{sym, ap, ◌∙◌, append_assoc, arith}
 use Rattle.std.proofs.lemmas.List.{map-append}

@@ -6,19 +6,19 @@ use Rattle.std.proofs.lemmas.List.Elements.{filter-append}
 use Rattle.feed_values.specs.Schema.{Value}
 use Rattle.feed_values.specs.Messages.{entity, trip_update, vehicle_position}
 use Rattle.feed_values.specs.Snapshot.{entity_of}
-use Rattle.rule_core.specs.declared.key.EntityKey.{EntityKey}
-use Rattle.rule_core.specs.declared.kind.Kind.TheVariants.{TripUpdate, Vehicle}
-use Rattle.rule_core.specs.Kinds.{same_kind}
-use Rattle.rule_core.specs.Order.{same_key}
-use Rattle.rule_core.specs.Groups.{Each}
-use Rattle.rule_core.specs.GroupLaws.{each_append, each_weaken}
-use Rattle.rule_core.specs.Judged.{update_of}
-use Rattle.rule_core.specs.Pairs.{PairRow, rows_of, update_rows, vehicle_rows, vehicle_of, is_id, same_id, same_row, has_row}
-use Rattle.rule_core.specs.History.{Keyed}
-use Rattle.rule_core.specs.Answered.{rows_in, payload_under}
+use Rattle.rule_table.specs.declared.key.EntityKey.{EntityKey}
+use Rattle.rule_table.specs.declared.kind.Kind.TheVariants.{TripUpdate, Vehicle}
+use Rattle.rule_table.specs.Kinds.{same_kind}
+use Rattle.rule_table.specs.Order.{same_key}
+use Rattle.rule_table.specs.Groups.{Each}
+use Rattle.rule_table.specs.GroupLaws.{each_append, each_weaken}
+use Rattle.rule_table.specs.Judged.{update_of}
+use Rattle.rule_table.specs.Pairs.{PairRow, rows_of, update_rows, vehicle_rows, vehicle_of, is_id, same_id, same_row, has_row}
+use Rattle.rule_history.specs.History.{Keyed}
+use Rattle.rule_history.specs.Answered.{rows_in, payload_under}
 use Rattle.engine_laws.specs.HeldFeeds.{AreApart}
 use Rattle.engine_laws.proofs.Spots.{is_false, key_is, key_self}
-use Rattle.follow_engine.specs.Ids.{of_update, of_vehicle, update_ids, vehicle_ids, same_ids}
+use Rattle.rule_table.specs.Ids.{of_update, of_vehicle, update_ids, vehicle_ids, same_ids}
 use Rattle.follow_engine.specs.Changes.{new_trip, new_vehicle, entity_trip, entity_vehicle}
 
 pub any-append : {A : Type 0} (q : A → Bool) (xs ys : List A) → list_any q (xs ++ ys) ≡ (list_any q xs || list_any q ys)

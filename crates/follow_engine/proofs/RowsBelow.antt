@@ -5,15 +5,15 @@ use Rattle.std.proofs.Common.{sym, ap, ◌∙◌, subst, arith, append-nil}
 use Rattle.std.proofs.lemmas.Bool.Decides.{nat_tests}
 use borrow.Author.Tests.{eqb-true, ne_eqb}
 use Rattle.std.proofs.lemmas.Slice.Eq.{bytes_eq-Decides}
-use Rattle.rule_core.specs.declared.kind.Kind.{Kind}
-use Rattle.rule_core.specs.declared.kind.Kind.TheVariants.{TripUpdate, Vehicle}
-use Rattle.rule_core.specs.Groups.{Each}
-use Rattle.rule_core.specs.GroupLaws.{each_weaken}
-use Rattle.rule_core.specs.Order.{same_key}
-use Rattle.rule_core.specs.Pairs.{PairRow, same_row, has_row, same_id}
-use Rattle.rule_core.specs.Kinds.{same_kind}
-use Rattle.rule_core.specs.History.{below, feed_limit}
-use Rattle.rule_core.specs.Changed.{changed_rows}
+use Rattle.rule_table.specs.declared.kind.Kind.{Kind}
+use Rattle.rule_table.specs.declared.kind.Kind.TheVariants.{TripUpdate, Vehicle}
+use Rattle.rule_table.specs.Groups.{Each}
+use Rattle.rule_table.specs.GroupLaws.{each_weaken}
+use Rattle.rule_table.specs.Order.{same_key}
+use Rattle.rule_table.specs.Pairs.{PairRow, same_row, has_row, same_id}
+use Rattle.rule_table.specs.Kinds.{same_kind}
+use Rattle.rule_history.specs.History.{below, feed_limit}
+use Rattle.rule_history.specs.Changed.{changed_rows}
 use Rattle.engine_laws.proofs.Lists.{both, filter-below, filter-same, filter-none}
 use Rattle.engine_laws.proofs.Spots.{key_self}
 use Rattle.follow_engine.proofs.RowsAt.{any-append, any_none}

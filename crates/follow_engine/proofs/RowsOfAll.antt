@@ -11,17 +11,18 @@ use Rattle.std.proofs.lemmas.List.Elements.{filter-append}
 use Rattle.std.proofs.lemmas.List.Folds.{flat_map-map}
 use Rattle.feed_values.specs.Snapshot.{entity_of}
 use Rattle.timetable.specs.Timetables.{Tables}
-use Rattle.rule_core.specs.declared.key.EntityKey.{EntityKey}
-use Rattle.rule_core.specs.declared.place.Place.{Place}
-use Rattle.rule_core.specs.declared.place.Place.TheVariants as place
-use Rattle.rule_core.specs.Order.{key_cmp, same_key}
-use Rattle.rule_core.specs.Changed.{is_under}
-use Rattle.rule_core.specs.Found.{Found}
-use Rattle.rule_core.specs.Groups.{Each, IsUnder}
-use Rattle.rule_core.specs.GroupLaws.{each_append, each_weaken}
-use Rattle.rule_core.specs.Pairs.{PairRow, rows_of}
-use Rattle.rule_core.specs.History.{Snapshot, Keyed, entities_in, entities_of_snapshot, below, feed_limit, feed_limit-is, ordered_after}
-use Rattle.rule_core.specs.Answered.{Heads, heads_of}
+use Rattle.rule_table.specs.declared.key.EntityKey.{EntityKey}
+use Rattle.rule_table.specs.declared.place.Place.{Place}
+use Rattle.rule_table.specs.declared.place.Place.TheVariants as place
+use Rattle.rule_table.specs.Order.{key_cmp, same_key}
+use Rattle.rule_history.specs.Changed.{is_under}
+use Rattle.rule_table.specs.Found.{Found}
+use Rattle.rule_table.specs.Groups.{Each, IsUnder}
+use Rattle.rule_table.specs.GroupLaws.{each_append, each_weaken}
+use Rattle.rule_table.specs.Pairs.{PairRow, rows_of}
+use Rattle.rule_history.specs.History.{Snapshot, Keyed, entities_in, entities_of_snapshot, below, feed_limit, feed_limit-is, ordered_after}
+use Rattle.rule_table.specs.Answers.{Heads}
+use Rattle.rule_history.specs.Answered.{heads_of}
 use Rattle.judging.specs.Seats as seat
 use Rattle.judging.specs.Whole as whole
 use Rattle.judging.specs.Judged.{seat_rows, found_at_seats}

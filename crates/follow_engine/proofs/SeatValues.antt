@@ -6,15 +6,15 @@ use Rattle.std.specs.Ordering.{match_ordering}
 use Rattle.std.specs.declared.cmp.Ordering.TheVariants as order
 use Rattle.std.proofs.Common.{ap, ◌∙◌, sym}
 use Rattle.feed_values.specs.declared.entity.Entity.{Entity}
-use Rattle.rule_core.specs.Order.{key_cmp}
+use Rattle.rule_table.specs.Order.{key_cmp}
 use Rattle.std.proofs.lemmas.List.Folds.{flat_map-map}
 use Rattle.feed_values.specs.Snapshot.{entity_of}
 use Rattle.feed_values.specs.Views.{entity_value}
-use Rattle.rule_core.specs.declared.key.EntityKey.{EntityKey}
-use Rattle.rule_core.specs.Groups.{Each}
-use Rattle.rule_core.specs.Pairs.{rows_of}
-use Rattle.rule_core.specs.History.{Keyed, entities_in, ordered_after}
-use Rattle.rule_core.specs.Answered.{rows_in}
+use Rattle.rule_table.specs.declared.key.EntityKey.{EntityKey}
+use Rattle.rule_table.specs.Groups.{Each}
+use Rattle.rule_table.specs.Pairs.{rows_of}
+use Rattle.rule_history.specs.History.{Keyed, entities_in, ordered_after}
+use Rattle.rule_history.specs.Answered.{rows_in}
 use Rattle.judging.specs.Seats.{Seat, seat_values}
 use Rattle.judging.specs.Judged.{seat_rows}
 use Rattle.follow_engine.specs.declared.seat.Seat as held

@@ -6,10 +6,10 @@ use Rattle.std.specs.BTreeMap.{insert_entry}
 use Rattle.std.proofs.Common.{sym, ap, ◌∙◌, arith}
 use Rattle.std.proofs.lemmas.List.{take_more, drop_more}
 use Rattle.feed_values.specs.Snapshot.{entity_payloads}
-use Rattle.rule_core.specs.declared.key.EntityKey.{EntityKey}
-use Rattle.rule_core.specs.Groups.{Each}
-use Rattle.rule_core.specs.Order.{key_cmp}
-use Rattle.rule_core.specs.History.{Keyed, id_of, count_id, keyed_after, ordered_after}
+use Rattle.rule_table.specs.declared.key.EntityKey.{EntityKey}
+use Rattle.rule_table.specs.Groups.{Each}
+use Rattle.rule_table.specs.Order.{key_cmp}
+use Rattle.rule_history.specs.History.{Keyed, id_of, count_id, keyed_after, ordered_after}
 use Rattle.follow_engine.specs.declared.seat.Seat.{Seat}
 use Rattle.follow_engine.specs.Seated.{seat_payload, Seats, keyed_seats}
 

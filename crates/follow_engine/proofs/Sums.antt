@@ -1,14 +1,14 @@
 -- Numbers of feeds, added up.
-use Rattle.std.specs.Prelude.{◌≡◌, ℕ, zero, suc, ◌+◌, ◌<◌, ◌≤◌, ◌==◌, Bool, true, false, cond, List, [], ◌∷◌, ◌++◌, length, get_or, refl, ◌⊎◌}
+use Rattle.std.specs.Prelude.{◌≡◌, ℕ, zero, suc, ◌+◌, ◌<◌, ◌≤◌, ◌==◌, Bool, true, false, List, [], ◌∷◌, length, get_or, refl, ◌⊎◌}
 use Rattle.std.proofs.Common.{inl, inr, sym, ap, ◌∙◌, arith}
 use Rattle.std.proofs.Math.Nat.{eq-or-lt_of_le}
 use Rattle.std.proofs.lemmas.Bool.Decides.{nat_tests}
 use Rattle.std.proofs.lemmas.List.{get_or_past}
 use borrow.Author.Tests.{eqb-true, ne_eqb}
-use Rattle.rule_core.specs.Groups.{Each}
-use Rattle.rule_core.specs.History.{below, feed_limit}
-use Rattle.rule_core.specs.Changed.{count_of}
+use Rattle.rule_history.specs.History.{below, feed_limit}
+use Rattle.rule_history.specs.Changed.{count_of}
 use Rattle.follow_engine.specs.Counted.{total}
+pub use Rattle.engine_laws.proofs.Sizes.{count-append, count-same, count-none}
 
 abbrev pub sum_below : (ℕ → ℕ) → ℕ → ℕ
 sum_below part zero = 0
@@ -96,24 +96,6 @@ sum-one part f (suc n) h l = either (f == n) refl (λ e. sum-one part f n (λ g 
     either false e ih = left (sum_below part n) (part n) (h n (last n) e) ∙ ih e
 
 -- ---- counts
-count-append : {A : Type 0} (test : A → Bool) (xs ys : List A) → count_of test (xs ++ ys) ≡ count_of test xs + count_of test ys
-count-append test [] ys = zero_left (count_of test ys)
-  where
-    zero_left : (n : ℕ) → n ≡ 0 + n
-    zero_left n = omega arith
-count-append test (x ∷ xs) ys = ap (λ n. cond (test x) 1 0 + n) (count-append test xs ys) ∙ assoc (cond (test x) 1 0) (count_of test xs) (count_of test ys)
-  where
-    assoc : (a b c : ℕ) → a + (b + c) ≡ (a + b) + c
-    assoc a b c = omega arith
-
 pub count-below : {A : Type 0} (test : A → Bool) (part : ℕ → List A) (n : ℕ) → count_of test (below part n) ≡ sum_below (λ g. count_of test (part g)) n
 count-below test part zero = refl
 count-below test part (suc n) = count-append test (below part n) (part n) ∙ ap (λ m. m + count_of test (part n)) (count-below test part n)
-
-pub count-same : {A : Type 0} (p q : A → Bool) (xs : List A) → Each (λ x. p x ≡ q x) xs → count_of p xs ≡ count_of q xs
-count-same p q [] h = refl
-count-same p q (x ∷ xs) h = ap (λ b. cond b 1 0 + count_of p xs) h.0 ∙ ap (λ n. cond (q x) 1 0 + n) (count-same p q xs h.1)
-
-pub count-none : {A : Type 0} (p : A → Bool) (xs : List A) → Each (λ x. p x ≡ false) xs → count_of p xs ≡ 0
-count-none p [] h = refl
-count-none p (x ∷ xs) h = ap (λ b. cond b 1 0 + count_of p xs) h.0 ∙ ap (λ n. 0 + n) (count-none p xs h.1)

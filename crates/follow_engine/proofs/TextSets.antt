@@ -5,7 +5,7 @@ use Rattle.std.specs.Cmp.Lexicographic.{slice_cmp}
 use Rattle.std.specs.BTreeMap.{is_at}
 use Rattle.std.proofs.Common.{ap, ◌∙◌}
 use Rattle.std.proofs.lemmas.Map.Text.{is_eq-slice_cmp}
-use Rattle.follow_engine.specs.Ids.{GivenIds}
+use Rattle.rule_table.specs.Ids.{GivenIds}
 
 pub text-put : (k q : List ℕ) (old : Bool) → cond (is_at (slice_cmp nat_cmp k) q) true old ≡ (old || bytes_eq k q)
 text-put k q old = ap (λ b. cond b true old) (is_eq-slice_cmp k q) ∙ either (bytes_eq k q) old

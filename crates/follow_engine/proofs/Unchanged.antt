@@ -7,16 +7,17 @@ use Rattle.std.proofs.lemmas.Bool.Decides.{Decides-int_eq}
 use Rattle.std.proofs.lemmas.Slice.Eq.{bytes_eq-Decides}
 use Rattle.feed_values.specs.declared.cell_value.CellValue.{CellValue}
 use Rattle.feed_values.specs.declared.cell_value.CellValue.TheVariants as value
-use Rattle.rule_core.specs.declared.fact.Fact.{Fact}
-use Rattle.rule_core.specs.Passed.{same_cell}
-use Rattle.rule_core.specs.Found.{Found}
-use Rattle.rule_core.specs.Groups.{Each}
-use Rattle.rule_core.specs.GroupLaws.{each_weaken}
-use Rattle.rule_core.specs.Standing.{Standing, same_ask, same_facts, same_spot, same_finding, stands, was, opened, closed, spots_of}
+use Rattle.rule_table.specs.declared.fact.Fact.{Fact}
+use Rattle.rule_table.specs.Passed.{same_cell}
+use Rattle.rule_table.specs.Found.{Found}
+use Rattle.rule_table.specs.Groups.{Each}
+use Rattle.rule_table.specs.GroupLaws.{each_weaken}
+use Rattle.rule_history.specs.Standing.{Standing, same_spot, same_finding, stands, was, opened, closed, spots_of}
+use Rattle.rule_table.specs.SameFacts.{same_ask, same_facts}
 use Rattle.engine_laws.specs.Standings.{findings_of}
 use Rattle.engine_laws.proofs.Lists.{filter-none, each_of_map}
 use Rattle.engine_laws.proofs.Spots.{spot_self, both_true, or_left, or_right}
-use Rattle.follow_engine.specs.Parts.{AskParts, parts_of, same_parts, parts_same}
+use Rattle.rule_table.specs.Parts.{AskParts, parts_of, same_parts, parts_same}
 
 parts_self : (p : AskParts) → same_parts p p ≡ true
 parts_self p =

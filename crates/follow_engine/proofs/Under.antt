@@ -6,12 +6,12 @@ use Rattle.std.specs.Map.{lookup}
 use Rattle.std.proofs.Common.{sym, ap, ◌∙◌, subst}
 use Rattle.std.specs.Cmp.Lexicographic.{pointwise}
 use Rattle.std.proofs.lemmas.List.{drop_all, drop_more}
-use Rattle.rule_core.specs.declared.key.EntityKey.{EntityKey}
-use Rattle.rule_core.specs.Order.{key_cmp, same_key}
-use Rattle.rule_core.specs.Groups.{Each}
-use Rattle.rule_core.specs.History.{entities_in}
-use Rattle.rule_core.specs.Answered.{payload_under}
-use Rattle.rule_core.specs.Changed.{is_payload}
+use Rattle.rule_table.specs.declared.key.EntityKey.{EntityKey}
+use Rattle.rule_table.specs.Order.{key_cmp, same_key}
+use Rattle.rule_table.specs.Groups.{Each}
+use Rattle.rule_history.specs.History.{entities_in}
+use Rattle.rule_history.specs.Answered.{payload_under}
+use Rattle.rule_history.specs.Changed.{is_payload}
 use Rattle.engine_laws.specs.Delta.{is_other}
 use Rattle.engine_laws.specs.HeldFeeds.{KeyedLists, list_under}
 use Rattle.engine_laws.proofs.Sorted.{lookup-under}

@@ -5,8 +5,8 @@ use Rattle.std.specs.Ordering.{match_ordering}
 use Rattle.std.specs.declared.cmp.Ordering.TheVariants.{Less, Equal, Greater}
 use Rattle.std.proofs.Common.{◌∙◌, ap, sym, subst, append_assoc}
 use Rattle.std.proofs.lemmas.List.{drop_more}
-use Rattle.rule_core.specs.Found.{Found}
-use Rattle.rule_core.specs.Standing.{Standing, Spot, opened, closed}
+use Rattle.rule_table.specs.Found.{Found}
+use Rattle.rule_history.specs.Standing.{Standing, Spot, opened, closed}
 use Rattle.engine_laws.specs.Order.{found_cmp, Rises}
 use Rattle.engine_laws.specs.Standings.{findings_of, renewed}
 use Rattle.engine_laws.proofs.Walk.{walk_renews, walk_opens, walk_closes}

@@ -1,7 +1,7 @@
 -- A snapshot that came, in the place of the one before it.
 use Rattle.std.specs.Prelude.{◌≡◌, ℕ, ◌≤◌, ◌==◌, List, length, Some, if◌then◌else◌}
-use Rattle.rule_core.specs.History.{Snapshot}
-use Rattle.rule_core.specs.Changed.{changed_rows}
+use Rattle.rule_history.specs.History.{Snapshot}
+use Rattle.rule_history.specs.Changed.{changed_rows}
 use Rattle.engine_laws.specs.HeldFeeds.{HeldFeed, feed_at, rows_held}
 use Rattle.follow_engine.specs.declared.arrival.Arrival.{Arrival}
 use Rattle.follow_engine.specs.declared.arriving.Settled.{Settled}

@@ -7,12 +7,12 @@ use Rattle.std.specs.BTreeSet.{BTreeSet, contains}
 use Rattle.feed_values.specs.Schema.{Value}
 use Rattle.feed_values.specs.Messages.{entity}
 use Rattle.feed_values.specs.Views.{entity_value}
-use Rattle.rule_core.specs.declared.key.EntityKey.{EntityKey}
-use Rattle.rule_core.specs.Order.{key_cmp}
-use Rattle.rule_core.specs.Pairs.{is_id}
+use Rattle.rule_table.specs.declared.key.EntityKey.{EntityKey}
+use Rattle.rule_table.specs.Order.{key_cmp}
+use Rattle.rule_table.specs.Pairs.{is_id}
 use Rattle.follow_engine.specs.declared.seat.Seat.{Seat}
 use Rattle.follow_engine.specs.declared.changes.ChangedIds.{ChangedIds}
-use Rattle.follow_engine.specs.Ids.{GivenIds, update_ids, vehicle_ids, same_ids}
+use Rattle.rule_table.specs.Ids.{GivenIds, update_ids, vehicle_ids, same_ids}
 
 abbrev pub has_text : BTreeSet (List ℕ) → List ℕ → Bool
 has_text ids q = contains (slice_cmp nat_cmp) ids q

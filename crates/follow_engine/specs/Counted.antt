@@ -1,13 +1,13 @@
 -- Which entities of a feed a snapshot concerns.
 use Rattle.std.specs.Prelude.{ℕ, ◌+◌, ◌==◌, Bool, not, ◌&&◌, ◌||◌, List, [], ◌∷◌, Option, Some, None}
 use Rattle.feed_values.specs.Snapshot.{entity_of}
-use Rattle.rule_core.specs.declared.key.EntityKey.{EntityKey}
-use Rattle.rule_core.specs.Changed.{keeps_bounds, count_of}
-use Rattle.rule_core.specs.History.{Snapshot, Keyed, entities_of_snapshot}
+use Rattle.rule_table.specs.declared.key.EntityKey.{EntityKey}
+use Rattle.rule_history.specs.Changed.{keeps_bounds, count_of}
+use Rattle.rule_history.specs.History.{Snapshot, Keyed, entities_of_snapshot}
 use Rattle.engine_laws.specs.Delta.{is_other, has_limit}
 use Rattle.engine_laws.specs.HeldFeeds.{KeyedLists, HeldFeed, list_under}
 use Rattle.follow_engine.specs.declared.changes.Changes.{Changes}
-use Rattle.follow_engine.specs.Ids.{update_ids, vehicle_ids}
+use Rattle.rule_table.specs.Ids.{update_ids, vehicle_ids}
 use Rattle.follow_engine.specs.Changes.{is_concerned}
 
 -- one of a feed that wasn't there before with the same bytes

@@ -1,7 +1,7 @@
 -- What code says of a snapshot's changes, as the definitions have it.
 use Rattle.std.specs.Prelude.{List, map}
-use Rattle.rule_core.specs.Found.{Found}
-use Rattle.rule_core.specs.Standing.{Standing, Spot}
+use Rattle.rule_table.specs.Found.{Found}
+use Rattle.rule_history.specs.Standing.{Standing, Spot}
 use Rattle.engine_laws.specs.Delta as law
 use Rattle.follow_engine.specs.declared.delta.Delta.{Delta}
 use Rattle.follow_engine.specs.declared.delta.Opened.{Opened}

@@ -1,5 +1,5 @@
 -- The plain data of an engine.
-use Rattle.rule_core.specs.Answered.{tables_of}
+use Rattle.rule_history.specs.Answered.{tables_of}
 use Rattle.engine_laws.specs.Standings.{Held}
 use Rattle.engine_laws.specs.HeldFeeds.{data_of}
 use Rattle.follow_engine.specs.declared.engine.Engine.{Engine}

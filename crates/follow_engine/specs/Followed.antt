@@ -2,9 +2,9 @@
 use Rattle.std.specs.Prelude.{◌≡◌, ℕ, ◌+◌, List, map, Option}
 use Rattle.std.specs.List.{flat_map}
 use Rattle.timetable.specs.Timetables.{Tables}
-use Rattle.rule_core.specs.Changed.{with}
-use Rattle.rule_core.specs.History.{Snapshot}
-use Rattle.rule_core.specs.Pairs.{PairRow}
+use Rattle.rule_history.specs.Changed.{with}
+use Rattle.rule_history.specs.History.{Snapshot}
+use Rattle.rule_table.specs.Pairs.{PairRow}
 use Rattle.engine_laws.specs.Delta.{IsDelta}
 use Rattle.engine_laws.specs.HeldFeeds.{HeldFeed, feed_at, data_of, rows_held, entities_found, opened_in, closed_in}
 use Rattle.engine_laws.specs.Standings.{StandsFor}

@@ -1,10 +1,10 @@
 -- What is found at the seats of a snapshot.
 use Rattle.std.specs.Prelude.{List, map, Option}
 use Rattle.timetable.specs.Timetables.{Tables}
-use Rattle.rule_core.specs.declared.key.EntityKey.{EntityKey}
-use Rattle.rule_core.specs.Found.{Found}
-use Rattle.rule_core.specs.Pairs.{PairRow}
-use Rattle.rule_core.specs.History.{Snapshot, Keyed}
+use Rattle.rule_table.specs.declared.key.EntityKey.{EntityKey}
+use Rattle.rule_table.specs.Found.{Found}
+use Rattle.rule_table.specs.Pairs.{PairRow}
+use Rattle.rule_history.specs.History.{Snapshot, Keyed}
 use Rattle.engine_laws.specs.HeldFeeds.{KeyedFindings, entity_found}
 use Rattle.follow_engine.specs.Seated.{Seats, seat_payload}
 

@@ -1,9 +1,9 @@
 -- What is told of pairing rows that came or went.
 use Rattle.std.specs.Prelude.{◌≡◌, ℕ, List}
 use Rattle.std.specs.List.{list_any}
-use Rattle.rule_core.specs.declared.kind.Kind.TheVariants.{TripUpdate, Vehicle}
-use Rattle.rule_core.specs.Pairs.{PairRow, is_id}
-use Rattle.rule_core.specs.Changed.{changed_rows, turns}
+use Rattle.rule_table.specs.declared.kind.Kind.TheVariants.{TripUpdate, Vehicle}
+use Rattle.rule_table.specs.Pairs.{PairRow, is_id}
+use Rattle.rule_history.specs.Changed.{changed_rows, turns}
 use Rattle.follow_engine.specs.declared.changes.ChangedIds.{ChangedIds}
 use Rattle.follow_engine.specs.declared.changes.Changes.{Changes}
 use Rattle.follow_engine.specs.Changes.{has_text}

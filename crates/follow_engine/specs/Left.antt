@@ -2,8 +2,8 @@
 use Rattle.std.specs.Prelude.{ℕ, List, [], ◌∷◌, Option, Some, None, map}
 use Rattle.std.specs.List.{flat_map}
 use denote.Ref.{Bor}
-use Rattle.rule_core.specs.Found.{Found}
-use Rattle.rule_core.specs.Standing.{Standing}
+use Rattle.rule_table.specs.Found.{Found}
+use Rattle.rule_history.specs.Standing.{Standing}
 use Rattle.engine_laws.specs.HeldFeeds.{HeldFeed}
 
 -- a finding and a number that are handed out

@@ -1,8 +1,6 @@
 pub mod Deltas
-pub mod Parts
 pub mod Walked
 pub mod Left
-pub mod Ids
 pub mod Changes
 pub mod GivesIds
 pub mod Rooms

@@ -1,10 +1,10 @@
 -- What is held of feeds, and what a snapshot makes of it.
 use Rattle.std.specs.Prelude.{ℕ, ◌≤◌, ◌==◌, Bool, false, List, [], map, length, Option, Some, None, if◌then◌else◌}
 use Rattle.timetable.specs.Timetables.{Tables}
-use Rattle.rule_core.specs.Groups.{Each}
-use Rattle.rule_core.specs.Pairs.{PairRow}
-use Rattle.rule_core.specs.History.{Snapshot}
-use Rattle.rule_core.specs.Standing.{Standing}
+use Rattle.rule_table.specs.Groups.{Each}
+use Rattle.rule_table.specs.Pairs.{PairRow}
+use Rattle.rule_history.specs.History.{Snapshot}
+use Rattle.rule_history.specs.Standing.{Standing}
 use Rattle.engine_laws.specs.Order.{found_cmp, Rises}
 use Rattle.engine_laws.specs.Standings.{findings_of, renewed}
 use Rattle.engine_laws.specs.HeldFeeds.{KeyedLists, HeldFeed, head_found, entities_found, renewed_lists, feed_at, AreOwn}

@@ -2,15 +2,15 @@
 use Rattle.std.specs.Prelude.{List, map}
 use Rattle.std.specs.List.{flat_map}
 use Rattle.feed_values.specs.Snapshot.{entity_of}
-use Rattle.rule_core.specs.Pairs.{PairRow}
-use Rattle.rule_core.specs.History.{Keyed, entities_of_snapshot}
-use Rattle.rule_core.specs.Answered.{rows_in}
+use Rattle.rule_table.specs.Pairs.{PairRow}
+use Rattle.rule_history.specs.History.{Keyed, entities_of_snapshot}
+use Rattle.rule_history.specs.Answered.{rows_in}
 use Rattle.judging.specs.Seats.{Seat}
 use Rattle.engine_laws.specs.HeldFeeds.{HeldFeed}
 use Rattle.feed_values.specs.Schema.{Value}
 use Rattle.feed_values.specs.Messages.{entity}
 use Rattle.feed_values.specs.Views.{entity_value}
-use Rattle.rule_core.specs.declared.key.EntityKey.{EntityKey}
+use Rattle.rule_table.specs.declared.key.EntityKey.{EntityKey}
 use Rattle.follow_engine.specs.Seated.{Seats}
 
 abbrev pub value_of : Keyed → Seat

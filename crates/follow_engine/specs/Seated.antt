@@ -2,9 +2,9 @@
 use Rattle.std.specs.Prelude.{◌≡◌, ℕ, ◌<◌, List, [], length, map, get_or}
 use Rattle.feed_values.specs.Snapshot.{entity_payloads, entity_of}
 use Rattle.feed_values.specs.Views.{entity_value}
-use Rattle.rule_core.specs.declared.key.EntityKey.{EntityKey}
-use Rattle.rule_core.specs.Groups.{Each}
-use Rattle.rule_core.specs.History.{Keyed, entities_in}
+use Rattle.rule_table.specs.declared.key.EntityKey.{EntityKey}
+use Rattle.rule_table.specs.Groups.{Each}
+use Rattle.rule_history.specs.History.{Keyed, entities_in}
 use Rattle.follow_engine.specs.declared.seat.Seat.{Seat}
 
 -- the byte string at a seat's place

@@ -1,8 +1,9 @@
 -- A list of standings gone along beside a finding.
 use Rattle.std.specs.Prelude.{Bool, false, List, [], ◌∷◌, Option, Some, None}
 use Rattle.std.specs.Ordering.{match_ordering}
-use Rattle.rule_core.specs.Found.{Found}
-use Rattle.rule_core.specs.Standing.{Standing, same_facts}
+use Rattle.rule_table.specs.Found.{Found}
+use Rattle.rule_history.specs.Standing.{Standing}
+use Rattle.rule_table.specs.SameFacts.{same_facts}
 use Rattle.engine_laws.specs.Order.{found_cmp}
 
 -- the first standing that doesn't come before a finding, where it is of the same rule and place

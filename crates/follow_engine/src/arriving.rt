@@ -1,6 +1,6 @@
 //! A snapshot takes the place of the one before it.
 ghost use Rattle.std.specs.Prelude.{◌≡◌, ◌<◌, ◌≤◌, ℕ, length, IfOk, OnOk};
-ghost use Rattle.rule_core.specs.Changed.{changed_rows, differ};
+ghost use Rattle.rule_history.specs.Changed.{changed_rows, differ};
 ghost use Rattle.engine_laws.specs.HeldFeeds.{feed_at};
 ghost use Rattle.follow_engine.specs.Arrived.{IsSettled, HasCome, with_last};
 ghost use Rattle.follow_engine.specs.GivesIds.{GiveIds};

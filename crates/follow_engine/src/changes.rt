@@ -2,14 +2,13 @@
 ghost use Rattle.std.specs.Prelude.{◌≡◌, ◌||◌, ℕ, List, false, option_map, option_copied, IfOk, OnOk};
 ghost use Rattle.std.specs.List.{list_any};
 ghost use Rattle.feed_values.specs.Views.{entity_value};
-ghost use Rattle.rule_core.specs.Pairs.{is_id};
-ghost use Rattle.follow_engine.specs.Ids.{ids_value, update_ids, vehicle_ids};
+ghost use Rattle.rule_table.specs.Pairs.{is_id};
+ghost use Rattle.rule_table.specs.Ids.{ids_value, update_ids, vehicle_ids};
 ghost use Rattle.follow_engine.specs.Changes.{has_text, has_given, new_trip, new_vehicle, entity_trip, entity_vehicle, seat_trip, seat_vehicle, entity_in, shared, is_concerned};
 
-use crate::ids::{Ids, are_same_ids, update_ids, vehicle_ids};
 use crate::seat::Seat;
 use feed_values::{Entity, Text};
-use rule_core::EntityKey;
+use rule_table::{EntityKey, Ids, are_same_ids, update_ids, vehicle_ids};
 use std::alloc::{AllocError, Global};
 use std::collections::{BTreeMap, BTreeSet};
 

@@ -1,8 +1,8 @@
 //! How many entities a snapshot concerns.
 ghost use Rattle.std.specs.Prelude.{◌≡◌, ◌+◌, ◌==◌, ◌&&◌, ◌||◌, not, IfOk, OnOk, if◌then◌else◌};
 ghost use Rattle.feed_values.specs.Views.{entity_value, natural};
-ghost use Rattle.rule_core.specs.Changed.{same_number, keeps_bounds, count_of};
-ghost use Rattle.rule_core.specs.History.{entities_in};
+ghost use Rattle.rule_history.specs.Changed.{same_number, keeps_bounds, count_of};
+ghost use Rattle.rule_history.specs.History.{entities_in};
 ghost use Rattle.engine_laws.specs.Delta.{has_limit};
 ghost use Rattle.follow_engine.specs.Rooms.{ListsInOrder};
 ghost use Rattle.follow_engine.specs.Seated.{IsSeat, seat_payload};
@@ -14,7 +14,7 @@ use crate::seat::Seat;
 use crate::standing::Standing;
 use crate::taken::Taken;
 use feed_values::Items;
-use rule_core::{EntityKey, RuleId};
+use rule_table::{EntityKey, RuleId};
 use std::alloc::AllocError;
 use std::collections::BTreeMap;
 

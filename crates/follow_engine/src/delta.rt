@@ -1,7 +1,7 @@
 //! What a snapshot changes.
 
 use feed_values::Items;
-use rule_core::{Finding, Place, RuleId};
+use rule_table::{Finding, Place, RuleId};
 
 /// What one more snapshot changed.
 #[derive(Drop)]

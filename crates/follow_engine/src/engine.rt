@@ -1,9 +1,9 @@
 //! The engine.
 ghost use Rattle.std.specs.Prelude.{◌≡◌, ◌<◌, List, [], Option, IfOk};
 ghost use Rattle.timetable.specs.Timetables.{Tables};
-ghost use Rattle.rule_core.specs.Answered.{tables_of};
-ghost use Rattle.rule_core.specs.Changed.{with};
-ghost use Rattle.rule_core.specs.History.{Snapshot};
+ghost use Rattle.rule_history.specs.Answered.{tables_of};
+ghost use Rattle.rule_history.specs.Changed.{with};
+ghost use Rattle.rule_history.specs.History.{Snapshot};
 ghost use Rattle.engine_laws.specs.Delta.{IsDelta};
 ghost use Rattle.engine_laws.specs.Standings.{StandsFor};
 ghost use Rattle.follow_engine.specs.Deltas.{delta_value};

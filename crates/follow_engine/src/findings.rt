@@ -9,7 +9,7 @@ ghost use Rattle.follow_engine.specs.Rooms.{feeds_of};
 use crate::room::Room;
 use crate::standing::Standing;
 use feed_values::Items;
-use rule_core::{EntityKey, Finding};
+use rule_table::{EntityKey, Finding};
 use std::collections::btree_map::Values;
 use std::marker::Model;
 
@@ -26,7 +26,7 @@ struct Lists<'a> {
 impl<'a> Model for Lists<'a> {
     ghost use Rattle.std.specs.Prelude.{List, ◌++◌};
     ghost use Rattle.std.specs.List.{flat_map};
-    ghost use Rattle.rule_core.specs.Standing as standing;
+    ghost use Rattle.rule_history.specs.Standing as standing;
     ghost use Rattle.follow_engine.specs.Left.{at_hand, feed_lists};
     ghost use Rattle.follow_engine.specs.Rooms.{feeds_of};
 
@@ -73,7 +73,7 @@ pub struct FindingsIter<'a> {
 
 impl<'a> Model for FindingsIter<'a> {
     ghost use Rattle.std.specs.Prelude.{List, ◌++◌};
-    ghost use Rattle.rule_core.specs.Standing as standing;
+    ghost use Rattle.rule_history.specs.Standing as standing;
     ghost use Rattle.follow_engine.specs.Left.{flat};
 
     ghost Value = { List standing.Standing };

@@ -1,7 +1,7 @@
 //! A snapshot is followed: it takes its place, and all is judged anew.
 ghost use Rattle.std.specs.Prelude.{◌≡◌, ◌<◌, ◌≤◌, length, IfOk};
 ghost use Rattle.feed_values.specs.Snapshot.{entity_payloads};
-ghost use Rattle.rule_core.specs.Answered.{tables_of};
+ghost use Rattle.rule_history.specs.Answered.{tables_of};
 ghost use Rattle.follow_engine.specs.Rooms.{AreRooms, feeds_of};
 ghost use Rattle.follow_engine.specs.Followed.{IsJudged, IsFollowed};
 

@@ -1,7 +1,7 @@
 //! Which kinds of pairing rows there are.
 ghost use Rattle.std.specs.Prelude.{◌≡◌};
-ghost use Rattle.rule_core.specs.declared.kind.Kind.TheVariants as kind;
-ghost use Rattle.rule_core.specs.Pairs.{any_row};
+ghost use Rattle.rule_table.specs.declared.kind.Kind.TheVariants as kind;
+ghost use Rattle.rule_table.specs.Pairs.{any_row};
 ghost use Rattle.follow_engine.specs.Rooms.{held, feeds_of};
 ghost use Rattle.follow_engine.specs.Rowed.{room_rows, all_rows};
 

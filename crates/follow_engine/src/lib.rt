@@ -7,8 +7,8 @@
 //! held.
 //!
 //! What they speak of: `arrival` is a snapshot that came, `delta` what it changes, `room` what is held of a feed and `feeds` of all of them,
-//! `seat` an entity as it is held, `standing` a finding since a snapshot, `ids` what a trip update or vehicle position gives. `order` is the
-//! order of findings; `same` compares facts, and `parts` has what their asks are made of.
+//! `seat` an entity as it is held, `standing` a finding since a snapshot. `order` is the
+//! order of findings.
 #![tactic(auto)]
 
 mod arrival;
@@ -20,15 +20,12 @@ mod engine;
 mod feeds;
 mod findings;
 mod following;
-mod ids;
 mod kinds;
 mod order;
-mod parts;
 mod renewing;
 mod room;
 mod rooms;
 mod rows;
-mod same;
 mod seat;
 mod seating;
 mod standing;

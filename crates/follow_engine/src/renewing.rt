@@ -1,7 +1,7 @@
 //! Findings judged anew.
 ghost use Rattle.std.specs.Prelude.{◌≡◌, ◌++◌, Some, IfOk};
-ghost use Rattle.rule_core.specs.Answered.{tables_of};
-ghost use Rattle.rule_core.specs.Standing.{opened};
+ghost use Rattle.rule_history.specs.Answered.{tables_of};
+ghost use Rattle.rule_history.specs.Standing.{opened};
 ghost use Rattle.engine_laws.specs.Order.{found_cmp, Rises};
 ghost use Rattle.engine_laws.specs.Standings.{findings_of, renewed};
 ghost use Rattle.engine_laws.specs.HeldFeeds.{head_found, entities_found, renewed_lists, list_under};
@@ -19,7 +19,7 @@ use crate::walking::{put_opened, renew};
 use feed_values::Items;
 use judging::AllRules;
 use rt_outside::Steps;
-use rule_core::{EntityKey, Finding, PairView};
+use rule_table::{EntityKey, Finding, PairView};
 use std::alloc::{AllocError, Global};
 use std::collections::BTreeMap;
 use std::sync::ledger::Ledger;

@@ -4,7 +4,7 @@ ghost use Rattle.std.specs.Prelude.{◌≡◌};
 use crate::standing::Standing;
 use crate::taken::Taken;
 use feed_values::Items;
-use rule_core::EntityKey;
+use rule_table::EntityKey;
 use std::collections::BTreeMap;
 use std::marker::Model;
 

@@ -1,8 +1,8 @@
 //! What is held of all feeds.
 ghost use Rattle.std.specs.Prelude.{◌≡◌, ◌+◌, ◌++◌, Some, map, IfOk, OnOk};
 ghost use Rattle.std.specs.List.{flat_map};
-ghost use Rattle.rule_core.specs.Answered.{tables_of};
-ghost use Rattle.rule_core.specs.Standing.{opened, closed};
+ghost use Rattle.rule_history.specs.Answered.{tables_of};
+ghost use Rattle.rule_history.specs.Standing.{opened, closed};
 ghost use Rattle.engine_laws.specs.Standings.{findings_of};
 ghost use Rattle.engine_laws.specs.HeldFeeds.{list_under, opened_in, closed_in};
 ghost use Rattle.follow_engine.specs.Deltas.{all_opened, all_closed};
@@ -20,7 +20,7 @@ use crate::walking::{put_closed, put_opened};
 use feed_values::Items;
 use judging::AllRules;
 use rt_outside::Steps;
-use rule_core::{EntityKey, PairView};
+use rule_table::{EntityKey, PairView};
 use std::alloc::{AllocError, Global};
 use std::collections::BTreeMap;
 use std::sync::ledger::Ledger;

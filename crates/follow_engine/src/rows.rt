@@ -1,7 +1,7 @@
 //! The pairing rows of all feeds.
 ghost use Rattle.std.specs.Prelude.{◌≡◌, ℕ, Option, OnOk, IfOk};
 ghost use Rattle.timetable.specs.Timetables.{Tables};
-ghost use Rattle.rule_core.specs.History.{ordered_after};
+ghost use Rattle.rule_history.specs.History.{ordered_after};
 ghost use Rattle.pairing_rules.specs.ByKind.{AreAlike};
 ghost use Rattle.judging.specs.Seats.{seat_values};
 ghost use Rattle.engine_laws.specs.HeldFeeds.{entities_found, feed_at, rows_held};
@@ -12,7 +12,7 @@ use crate::room::Room;
 use feed_values::Entity;
 use judging::rows_of;
 use pairing_rules::PairIndex;
-use rule_core::EntityKey;
+use rule_table::EntityKey;
 use std::alloc::{AllocError, Global};
 use std::collections::BTreeMap;
 

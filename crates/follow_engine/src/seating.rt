@@ -1,7 +1,7 @@
 //! The entities of a snapshot under their keys.
 ghost use Rattle.std.specs.Prelude.{◌≡◌, ◌+◌, List, ℕ, IfOk, OnOk, bytes_eq, if◌then◌else◌};
 ghost use Rattle.std.specs.BTreeMap.{insert_entry};
-ghost use Rattle.rule_core.specs.Order.{key_cmp};
+ghost use Rattle.rule_table.specs.Order.{key_cmp};
 ghost use Rattle.judging.specs.Seats.{count_in};
 ghost use Rattle.follow_engine.specs.Seated.{AreSeats};
 
@@ -9,9 +9,8 @@ use crate::seat::Seat;
 use feed_codec::decode_entity;
 use feed_stream::Kept;
 use feed_values::{Entity, Text};
-use judging::count_one;
 use rt_outside::Steps;
-use rule_core::EntityKey;
+use rule_table::{EntityKey, count_one};
 use std::alloc::{AllocError, Global};
 use std::collections::BTreeMap;
 use std::sync::ledger::Ledger;

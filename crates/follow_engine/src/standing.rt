@@ -3,7 +3,7 @@ ghost use Rattle.std.specs.Prelude.{◌≡◌, IfOk};
 ghost use Rattle.follow_engine.specs.Deltas.{opened_value, closed_value, spot_of};
 
 use crate::delta::{Closed, Opened};
-use rule_core::Finding;
+use rule_table::Finding;
 use std::alloc::{AllocError, Global};
 use std::marker::Model;
 
@@ -15,7 +15,7 @@ pub(crate) struct Standing {
 }
 
 impl Model for Standing {
-    ghost use Rattle.rule_core.specs.Standing as standing;
+    ghost use Rattle.rule_history.specs.Standing as standing;
 
     ghost Value = { standing.Standing };
 

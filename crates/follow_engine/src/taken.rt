@@ -1,11 +1,10 @@
 //! A snapshot that was taken, decoded.
-ghost use Rattle.std.specs.Prelude.{◌≡◌, not, length, IfOk};
+ghost use Rattle.std.specs.Prelude.{◌≡◌, not, length, IfOk, bytes_eq};
 ghost use Rattle.std.specs.Cmp.Lexicographic.{pointwise};
-ghost use Rattle.std.specs.Prelude.{bytes_eq};
 ghost use Rattle.feed_values.specs.Snapshot.{header_of, entity_payloads};
 ghost use Rattle.feed_values.specs.Views.{feed_header_value};
-ghost use Rattle.rule_core.specs.Changed.{same_number};
-ghost use Rattle.rule_core.specs.History.{entities_in};
+ghost use Rattle.rule_history.specs.Changed.{same_number};
+ghost use Rattle.rule_history.specs.History.{entities_in};
 ghost use Rattle.engine_laws.specs.Delta.{is_other};
 ghost use Rattle.follow_engine.specs.Seated.{AreSeats, IsSeat, seat_payload};
 
@@ -15,7 +14,7 @@ use feed_codec::decode_header;
 use feed_stream::Kept;
 use feed_values::FeedHeader;
 use rt_outside::Steps;
-use rule_core::EntityKey;
+use rule_table::EntityKey;
 use std::alloc::{AllocError, Global};
 use std::collections::BTreeMap;
 use std::marker::Model;
@@ -32,7 +31,7 @@ pub(crate) struct Taken {
 }
 
 impl Model for Taken {
-    ghost use Rattle.rule_core.specs.History.{Snapshot};
+    ghost use Rattle.rule_history.specs.History.{Snapshot};
 
     ghost Value = { Snapshot };
 

@@ -1,6 +1,6 @@
 //! Lists of findings in order, compared by one walk.
 ghost use Rattle.std.specs.Prelude.{◌≡◌, ◌≤◌, ◌++◌, drop, length, option_copied, option_map, IfOk, OnOk};
-ghost use Rattle.rule_core.specs.Standing.{opened, closed};
+ghost use Rattle.rule_history.specs.Standing.{opened, closed};
 ghost use Rattle.engine_laws.specs.Order.{found_cmp, Rises};
 ghost use Rattle.engine_laws.specs.Standings.{findings_of, renewed};
 ghost use Rattle.follow_engine.specs.Deltas.{all_opened, all_closed};
@@ -8,10 +8,9 @@ ghost use Rattle.follow_engine.specs.Walked.{met, after, was_same};
 
 use crate::delta::{Closed, Opened};
 use crate::order::compare;
-use crate::same::are_same_facts;
 use crate::standing::Standing;
 use feed_values::Items;
-use rule_core::Finding;
+use rule_table::{Finding, are_same_facts};
 use std::alloc::{AllocError, Global};
 use std::cmp::Ordering;
 

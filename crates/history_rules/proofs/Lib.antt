@@ -1,2 +1,1 @@
-pub mod KeyOrder
 pub mod StampGroups

@@ -1,6 +1,6 @@
 -- Groups of stamps before and after one key changes.
 use Rattle.std.proofs.Common.{◌≡◌, ◌<◌, ◌≤◌, ◌^◌, ℕ, ◌==◌, Bool, true, false, cond, not, ◌&&◌, ◌||◌, List, [], ◌∷◌, ◌++◌, Some, None, refl, sym, ◌∙◌, ap, arith}
-use Rattle.std.specs.Ordering.{is_eq, is_lt, eq_by_cmp}
+use Rattle.std.specs.Ordering.{is_eq, is_lt, eq_by_cmp, nat_cmp, ordering_then}
 use Rattle.std.specs.Prelude.{nat_lt}
 use Rattle.std.proofs.lemmas.Bool.Decides.{nat_tests}
 use Rattle.std.specs.Cmp.{Equal-is, IsTotalOrder, eq_by_cmp_equiv}
@@ -8,18 +8,17 @@ use Rattle.std.specs.BTreeMap.Range.{range_contains, entries_between}
 use Rattle.std.specs.declared.ops.Bound.TheVariants.{Excluded, Included}
 use Rattle.std.specs.BTreeMap.{BTreeMap, is_at, get}
 use Rattle.std.specs.BTreeSet.{BTreeSet, contains}
-use Rattle.rule_core.specs.declared.key.EntityKey.{EntityKey}
+use Rattle.rule_table.specs.declared.key.EntityKey.{EntityKey}
 use Rattle.history_rules.specs.declared.moment.Moment.{Moment}
-use Rattle.rule_core.specs.Order.{key_cmp, same_key}
+use Rattle.rule_table.specs.Order.{key_cmp, same_key}
 use Rattle.std.specs.List.{list_any, AllByRecursion}
 use Rattle.std.specs.List.Sorted.{IsStrictlySortedBy}
 use Rattle.std.specs.Map.{keys_of, lookup}
 use Rattle.history_rules.specs.Stamps.{Stamp, same_stamp, stamps_at, stamps_of, holds, is_above}
 use Rattle.history_rules.specs.StampGroups.{moment_cmp, key_in, has_at, between, in_groups, AreSmall}
-use Rattle.history_rules.proofs.KeyOrder.{keys_total, same-key, then-eq, same-number}
+use Rattle.rule_table.proofs.SameKeys.{keys_total, same-key, then-eq, same-number}
 use Rattle.std.proofs.lemmas.Map.Lookups.{CmpEqualImpliesEq, exact_unsigned}
 use Rattle.std.proofs.lemmas.Cmp.{nat_cmp_total, on_total, then_total}
-use Rattle.std.specs.Ordering.{nat_cmp, ordering_then}
 use Rattle.std.specs.declared.cmp.Ordering.{Ordering}
 use Rattle.std.specs.declared.cmp.Ordering.TheVariants.{Less, Equal, Greater}
 

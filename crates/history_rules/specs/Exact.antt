@@ -10,26 +10,26 @@ use Rattle.feed_values.specs.declared.cell_value.CellValue.TheVariants as value
 use Rattle.feed_values.specs.Schema.{Value}
 use Rattle.feed_values.specs.Messages.{entity}
 use Rattle.feed_values.specs.Cells.{entity_cell, number_cell}
-use Rattle.rule_core.specs.declared.rule.RuleId.{RuleId}
-use Rattle.rule_core.specs.declared.rule.RuleId.TheVariants.{E012, E050}
-use Rattle.rule_core.specs.declared.ask.Ask.{Ask}
-use Rattle.rule_core.specs.declared.ask.Ask.TheVariants as ask
-use Rattle.rule_core.specs.declared.fact.Fact.{Fact}
-use Rattle.rule_core.specs.declared.key.EntityKey.{EntityKey}
-use Rattle.rule_core.specs.declared.place.Place.{Place}
-use Rattle.rule_core.specs.declared.place.Place.TheVariants as place
-use Rattle.rule_core.specs.Order.{slot_number}
-use Rattle.rule_core.specs.Asked.{in_range, number_in}
-use Rattle.rule_core.specs.Passed.{numbers_are, passes}
-use Rattle.rule_core.specs.Cited.{and_then, answered, cited, values_of}
-use Rattle.rule_core.specs.Answered.{bound_answer}
-use Rattle.rule_core.specs.Rows.{cites_at, test_at}
-use Rattle.rule_core.specs.Found.{Found}
-use Rattle.rule_core.specs.Judged.{found_of, found_at, found_by, found_all}
-use Rattle.rule_core.specs.Groups.{Each, IsUnder, has_rule}
-use Rattle.rule_core.specs.GroupLaws.{Stands, at_place, row_own, all_own}
-use Rattle.rule_core.specs.BothLaws.{stands_left, stands_right, stands_either, rule_of}
-use Rattle.rule_core.specs.Bounds.{bound_at, IsAbove, StandsAt, AreHeld, is_timestamp, stamp_at}
+use Rattle.rule_table.specs.declared.rule.RuleId.{RuleId}
+use Rattle.rule_table.specs.declared.rule.RuleId.TheVariants.{E012, E050}
+use Rattle.rule_table.specs.declared.ask.Ask.{Ask}
+use Rattle.rule_table.specs.declared.ask.Ask.TheVariants as ask
+use Rattle.rule_table.specs.declared.fact.Fact.{Fact}
+use Rattle.rule_table.specs.declared.key.EntityKey.{EntityKey}
+use Rattle.rule_table.specs.declared.place.Place.{Place}
+use Rattle.rule_table.specs.declared.place.Place.TheVariants as place
+use Rattle.rule_table.specs.Order.{slot_number}
+use Rattle.rule_table.specs.Asked.{in_range, number_in}
+use Rattle.rule_table.specs.Passed.{numbers_are, passes}
+use Rattle.rule_table.specs.Cited.{and_then, answered, cited, values_of}
+use Rattle.rule_table.specs.Answers.{bound_answer}
+use Rattle.rule_table.specs.Rows.{cites_at, test_at}
+use Rattle.rule_table.specs.Found.{Found}
+use Rattle.rule_table.specs.Judged.{found_of, found_at, found_by, found_all}
+use Rattle.rule_table.specs.Groups.{Each, IsUnder, has_rule}
+use Rattle.rule_table.specs.GroupLaws.{Stands, at_place, row_own, all_own}
+use Rattle.rule_table.specs.BothLaws.{stands_left, stands_right, stands_either, rule_of}
+use Rattle.rule_table.specs.Bounds.{bound_at, IsAbove, StandsAt, AreHeld, is_timestamp, stamp_at}
 use Rattle.history_rules.specs.Rules.{bound_rules, bound_of}
 
 -- ---- numbers

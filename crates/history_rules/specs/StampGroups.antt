@@ -7,8 +7,8 @@ use Rattle.std.specs.BTreeMap.{BTreeMap, get}
 use Rattle.std.specs.BTreeMap.Range.{range_contains}
 use Rattle.std.specs.declared.ops.Bound.TheVariants.{Excluded, Included}
 use Rattle.std.specs.BTreeSet.{BTreeSet, contains}
-use Rattle.rule_core.specs.Order.{key_cmp}
-use Rattle.rule_core.specs.declared.key.EntityKey.{EntityKey}
+use Rattle.rule_table.specs.Order.{key_cmp}
+use Rattle.rule_table.specs.declared.key.EntityKey.{EntityKey}
 use Rattle.history_rules.specs.declared.moment.Moment.{Moment}
 use Rattle.history_rules.specs.Stamps.{Stamp, holds}
 

@@ -3,8 +3,8 @@
 use Rattle.std.specs.Prelude.{ℕ, Bool, ◌==◌, ◌&&◌, List, [], ◌∷◌, ◌++◌, map, nat_lt}
 use Rattle.std.specs.List.{list_any}
 use Rattle.std.specs.BTreeSet.{BTreeSet}
-use Rattle.rule_core.specs.Order.{same_key}
-use Rattle.rule_core.specs.declared.key.EntityKey.{EntityKey}
+use Rattle.rule_table.specs.Order.{same_key}
+use Rattle.rule_table.specs.declared.key.EntityKey.{EntityKey}
 use Rattle.history_rules.specs.declared.moment.Moment.{Moment}
 
 -- a timestamp that an entity of a feed gives

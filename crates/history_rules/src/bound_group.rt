@@ -3,16 +3,16 @@ ghost use Rattle.std.specs.Prelude.{◌≡◌, refl};
 ghost use Rattle.std.specs.Option.{option_map};
 ghost use Rattle.feed_values.specs.Cells.{cell_value};
 ghost use Rattle.feed_values.specs.Views.{entity_value, natural};
-ghost use Rattle.rule_core.specs.Asked.{ask_value};
-ghost use Rattle.rule_core.specs.Answered.{bound_answer, limit_answer};
-ghost use Rattle.rule_core.specs.Judged.{found_all};
-ghost use Rattle.rule_core.specs.GroupLaws.{all_own, all_once};
+ghost use Rattle.rule_table.specs.Asked.{ask_value};
+ghost use Rattle.rule_table.specs.Answers.{bound_answer, limit_answer};
+ghost use Rattle.rule_table.specs.Judged.{found_all};
+ghost use Rattle.rule_table.specs.GroupLaws.{all_own, all_once};
 ghost use Rattle.history_rules.specs.Rules.{bound_rules, bound_of};
 ghost use Rattle.history_rules.specs.Exact.{rules_exact};
 
 use feed_values::{CellRef, Entity, FeedHeader, Slot, field_at, header_at};
 use rt_outside::Steps;
-use rule_core::{Answers, AskRef, BoundRule, EntityKey, FindingList, RuleId, Rules, judge_rules};
+use rule_table::{Answers, AskRef, BoundRule, EntityKey, FindingList, RuleId, Rules, judge_rules};
 use std::alloc::{AllocError, Global};
 use std::sync::ledger::Ledger;
 
@@ -49,7 +49,7 @@ impl Answers for BoundAnswers<'_> {
     }
 }
 
-/// The two rules on the timestamps of an entity, in the order of their texts.
+/// The rules on the timestamps of an entity, in the order of their texts.
 #[derive(Drop)]
 pub struct BoundGroup {
     rules: &'static [RuleId],

@@ -3,15 +3,15 @@ ghost use Rattle.std.specs.Prelude.{◌≡◌, option_copied, refl};
 ghost use Rattle.std.specs.Option.{option_map};
 ghost use Rattle.feed_values.specs.Cells.{cell_value};
 ghost use Rattle.feed_values.specs.Views.{feed_header_value};
-ghost use Rattle.rule_core.specs.Asked.{ask_value};
-ghost use Rattle.rule_core.specs.Answered.{Heads, heads_answer, previous_cell};
-ghost use Rattle.rule_core.specs.Judged.{head_found_all};
+ghost use Rattle.rule_table.specs.Asked.{ask_value};
+ghost use Rattle.rule_table.specs.Answers.{Heads, heads_answer, previous_cell};
+ghost use Rattle.rule_table.specs.Judged.{head_found_all};
 ghost use Rattle.history_rules.specs.Rules.{head_rules};
-ghost use Rattle.rule_core.specs.HeadLaws.{heads_own, heads_once};
+ghost use Rattle.rule_table.specs.HeadLaws.{heads_own, heads_once};
 
 use feed_values::{CellRef, FeedHeader, Slot, header_at};
 use rt_outside::Steps;
-use rule_core::{Answers, AskRef, FindingList, HeadRule, RuleId, Rules, judge_heads, truth_cell};
+use rule_table::{Answers, AskRef, FindingList, HeadRule, RuleId, Rules, judge_heads, truth_cell};
 use std::alloc::{AllocError, Global};
 use std::sync::ledger::Ledger;
 
@@ -61,7 +61,7 @@ impl Answers for HeadAnswers<'_> {
     }
 }
 
-/// The ten rules on the header of a feed, in the order of their texts.
+/// The rules on the header of a feed, in the order of their texts.
 #[derive(Drop)]
 pub struct HeadGroup {
     rules: &'static [RuleId],

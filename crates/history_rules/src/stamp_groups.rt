@@ -3,15 +3,15 @@ ghost use Rattle.std.specs.Prelude.{◌≡◌, ◌≤◌, ◌&&◌, ◌||◌, no
 ghost use Rattle.std.specs.Ordering.{is_eq, eq_by_cmp};
 ghost use Rattle.std.specs.BTreeSet.{contains};
 ghost use Rattle.std.specs.List.{list_any};
-ghost use Rattle.rule_core.specs.Order.{key_cmp};
-ghost use Rattle.rule_core.specs.declared.key.EntityKey.{EntityKey as Key};
+ghost use Rattle.rule_table.specs.Order.{key_cmp};
+ghost use Rattle.rule_table.specs.declared.key.EntityKey.{EntityKey as Key};
 ghost use Rattle.history_rules.specs.StampGroups.{moment_cmp, has_at, between};
 ghost use Rattle.history_rules.specs.Stamps.{stamps_of};
 ghost use Rattle.history_rules.specs.declared.moment.Moment.{Moment as At};
 
 use crate::keys::put_copies;
 use crate::moment::Moment;
-use rule_core::EntityKey;
+use rule_table::EntityKey;
 use std::alloc::{AllocError, Global};
 use std::collections::{BTreeMap, BTreeSet};
 use std::ops::Bound;

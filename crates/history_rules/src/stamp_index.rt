@@ -2,15 +2,14 @@
 ghost use Rattle.std.specs.Prelude.{◌≡◌, ◌≤◌, ◌^◌, ◌&&◌, ◌||◌, not, [], IfOk};
 ghost use Rattle.std.specs.List.{list_any};
 ghost use Rattle.std.specs.List.Sorted.{IsStrictlySortedBy};
-ghost use Rattle.rule_core.specs.Order.{key_cmp, same_key};
-ghost use Rattle.rule_core.specs.declared.key.EntityKey.{EntityKey as Key};
+ghost use Rattle.rule_table.specs.Order.{key_cmp, same_key};
+ghost use Rattle.rule_table.specs.declared.key.EntityKey.{EntityKey as Key};
 ghost use Rattle.history_rules.specs.Stamps.{Stamp, stamp_of, same_stamp, holds, is_above};
 
-use crate::keys::in_order;
 use crate::moment::Moment;
 use crate::stamp_groups::{put_between, put_stamp, take_stamp};
 use feed_values::Items;
-use rule_core::EntityKey;
+use rule_table::{EntityKey, keys_in_order};
 use std::alloc::{AllocError, Global};
 use std::collections::{BTreeMap, BTreeSet};
 use std::marker::Model;
@@ -94,7 +93,7 @@ impl StampIndex {
     {
         let _ = &self.groups;
         let keys = BTreeSet::new(alloc);
-        let found = in_order(alloc, keys)?;
+        let found = keys_in_order(alloc, keys)?;
         Ok(found)
     }
 
@@ -114,7 +113,7 @@ impl StampIndex {
         };
         let mut keys = BTreeSet::new(alloc);
         put_between(alloc, &mut keys, &self.groups, low, high)?;
-        let found = in_order(alloc, keys)?;
+        let found = keys_in_order(alloc, keys)?;
         Ok(found)
     }
 }

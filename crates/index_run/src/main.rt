@@ -8,7 +8,7 @@
 use feed_values::Text;
 use history_rules::StampIndex;
 use pairing_rules::{PairIndex, PairRow};
-use rule_core::{EntityKey, Kind, PairView};
+use rule_table::{EntityKey, Kind, PairView};
 use std::alloc::{AllocError, Global};
 use std::{env, io};
 

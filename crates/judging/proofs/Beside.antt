@@ -5,28 +5,25 @@ use borrow.Author.Tests.{clash}
 use Rattle.feed_values.specs.declared.slot.Slot.TheVariants.{S3}
 use Rattle.feed_values.specs.Schema.{Value}
 use Rattle.feed_values.specs.Messages.{entity}
-use Rattle.rule_core.specs.declared.ask.Ask.{Ask}
-use Rattle.rule_core.specs.declared.ask.Ask.TheVariants as ask
-use Rattle.rule_core.specs.declared.key.EntityKey.{EntityKey}
-use Rattle.rule_core.specs.declared.rule.RuleId.{RuleId}
-use Rattle.rule_core.specs.declared.rule.RuleId.TheVariants.{E001, E002, E012, E017, E018, E020, E021, E022, E025, E031, E032, E033, E036, E037, E038, E039, E040, E041, E042, E043, E044, E047, E048, E049, E050, E052, W001, W002, W003, W006, W007, W008, W009, X002}
-use Rattle.rule_core.specs.Answered.{Heads}
-use Rattle.rule_core.specs.Judged.{found_all, found_by}
-use Rattle.rule_core.specs.Pairs.{PairRow}
-use Rattle.rule_core.specs.Sources.{source_of}
-use Rattle.rule_core.specs.Table.{all_rules}
-use Rattle.schedule_rules.proofs.Absent.{asks_timetable, by_none, is_timetable}
+use Rattle.rule_table.specs.declared.ask.Ask.{Ask}
+use Rattle.rule_table.specs.declared.ask.Ask.TheVariants as ask
+use Rattle.rule_table.specs.declared.key.EntityKey.{EntityKey}
+use Rattle.rule_table.specs.declared.rule.RuleId.{RuleId}
+use Rattle.rule_table.specs.Answers.{Heads}
+use Rattle.rule_table.specs.Judged.{found_all, found_by}
+use Rattle.rule_table.specs.Pairs.{PairRow}
+use Rattle.rule_table.specs.Sources.{source_of}
+use Rattle.rule_table.specs.Table.{all_rules}
+use Rattle.rule_table.specs.Asks.{is_timetable}
+use Rattle.schedule_rules.proofs.Absent.{asks_timetable, by_none}
 use Rattle.judging.specs.Whole.{entity_found, whole_answer}
-
--- the rules that don't ask the timetable
-abbrev pub beside_timetable : List RuleId
-beside_timetable = E001 ∷ E002 ∷ E012 ∷ E017 ∷ E018 ∷ E020 ∷ E021 ∷ E022 ∷ E025 ∷ E031 ∷ E032 ∷ E033 ∷ E036 ∷ E037 ∷ E038 ∷ E039 ∷ E040 ∷ E041 ∷ E042 ∷ E043 ∷ E044 ∷ E047 ∷ E048 ∷ E049 ∷ E050 ∷ E052 ∷ W001 ∷ W002 ∷ W003 ∷ W006 ∷ W007 ∷ W008 ∷ W009 ∷ X002 ∷ []
 
 abbrev keeps : RuleId → Bool
 keeps rule = not (asks_timetable rule)
 
-are_beside : filter keeps all_rules ≡ beside_timetable
-are_beside = refl
+-- the rules that don't ask the timetable
+abbrev pub beside_timetable : List RuleId
+beside_timetable = filter keeps all_rules
 
 module _ (rows : List PairRow) (heads : Heads) (k : EntityKey) (e : Value entity) where
   unanswered : (q : Ask) → is_timetable (source_of q) ≡ true → whole_answer None rows heads k e q ≡ None

@@ -10,19 +10,20 @@ use Rattle.feed_values.specs.Schema.{Value}
 use Rattle.feed_values.specs.Messages.{entity}
 use Rattle.feed_values.specs.Snapshot.{timestamp_of}
 use Rattle.timetable.specs.Timetables.{Tables}
-use Rattle.rule_core.specs.declared.ask.Ask.{Ask}
-use Rattle.rule_core.specs.declared.ask.Ask.TheVariants as ask
-use Rattle.rule_core.specs.declared.key.EntityKey.{EntityKey}
-use Rattle.rule_core.specs.Answered.{Heads, local_answer, pair_answer, bound_answer, timetable_answer, rows_answer}
-use Rattle.rule_core.specs.Table.{all_rules}
-use Rattle.rule_core.specs.Judged.{found_all}
-use Rattle.rule_core.specs.GroupLaws.{all_append}
-use Rattle.rule_core.specs.CitedLaws.{both_same}
-use Rattle.rule_core.specs.Pairs.{PairRow}
-use Rattle.rule_core.specs.declared.rule.RuleId.{RuleId}
-use Rattle.rule_core.specs.Groups.{NoneInBoth, are_apart}
-use Rattle.rule_core.specs.Sources.{comes_from, source_of, is_local, is_paired, is_bounded}
-use Rattle.rule_core.specs.Same.{SameFrom, all_same}
+use Rattle.rule_table.specs.declared.ask.Ask.{Ask}
+use Rattle.rule_table.specs.declared.ask.Ask.TheVariants as ask
+use Rattle.rule_table.specs.declared.key.EntityKey.{EntityKey}
+use Rattle.rule_table.specs.Answers.{Heads, pair_answer, bound_answer, rows_answer}
+use Rattle.rule_history.specs.Answered.{local_answer, timetable_answer}
+use Rattle.rule_table.specs.Table.{all_rules}
+use Rattle.rule_table.specs.Judged.{found_all}
+use Rattle.rule_table.specs.GroupLaws.{all_append}
+use Rattle.rule_table.specs.CitedLaws.{both_same}
+use Rattle.rule_table.specs.Pairs.{PairRow}
+use Rattle.rule_table.specs.declared.rule.RuleId.{RuleId}
+use Rattle.rule_table.specs.Groups.{NoneInBoth, are_apart}
+use Rattle.rule_table.specs.Sources.{comes_to, source_of, is_local, is_paired, is_bounded}
+use Rattle.rule_table.specs.Same.{SameFrom, all_same}
 use Rattle.message_rules.specs.Message.{message_rules}
 use Rattle.schedule_rules.specs.Schedule.{schedule_rules}
 use Rattle.pairing_rules.specs.Pairing.{pairing_rules}
@@ -35,7 +36,7 @@ pub groups_apart : NoneInBoth message_rules schedule_rules
 unfolding schedule_rules
 groups_apart = refl
 
-local_from : list_all (comes_from is_local) schedule_rules ≡ true
+local_from : list_all (comes_to is_local) schedule_rules ≡ true
 unfolding schedule_rules
 local_from = refl
 

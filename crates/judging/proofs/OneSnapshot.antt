@@ -1,16 +1,12 @@
 -- The findings after a history of one snapshot are those of this snapshot by itself.
-use Rattle.std.specs.Prelude.{◌≡◌, ◌<◌, ◌+◌, ◌==◌, ℕ, zero, suc, Bool, true, false, ◌&&◌, List, [], ◌∷◌, ◌++◌, reverse, map, Option, Some, None, option_map, option_and_then, bytes_eq, cond, refl}
+use Rattle.std.specs.Prelude.{◌≡◌, ◌<◌, ◌+◌, ◌==◌, ℕ, zero, suc, Bool, true, false, List, [], ◌∷◌, ◌++◌, reverse, map, Option, Some, None, option_map, option_and_then, bytes_eq, cond, refl}
 use Rattle.std.specs.Option.{option_or}
 use Rattle.std.specs.List.{flat_map, find}
 use Rattle.std.specs.declared.cmp.Ordering.{Ordering}
 use Rattle.std.specs.declared.cmp.Ordering.TheVariants as order
-use Rattle.std.specs.Ordering.{nat_cmp, is_eq, ordering_then, ordering_reverse, match_ordering}
-use Rattle.std.specs.Cmp.{IsTotalOrder}
-use Rattle.std.specs.Cmp.Lexicographic.{slice_cmp, nat_list_cmp_total, texts_ties}
+use Rattle.std.specs.Ordering.{is_eq, ordering_reverse, match_ordering}
 use Rattle.std.specs.BTreeMap.{insert_entry}
 use Rattle.std.proofs.Common.{sym, ap, ◌∙◌, arith, eq-eqb}
-use Rattle.std.proofs.lemmas.Bool.Decides.{nat_tests}
-use Rattle.std.proofs.lemmas.Cmp.{nat_cmp_total, on_total, then_total}
 use borrow.Author.Tests.{eqb-true, ne_eqb}
 use Rattle.feed_values.specs.Schema.{Value}
 use Rattle.feed_values.specs.Messages.{entity}
@@ -18,19 +14,21 @@ use Rattle.feed_values.specs.Snapshot.{header_of, entity_payloads, entities_of, 
 use Rattle.feed_values.proofs.SnapshotFields.{snapshot_is_its_fields}
 use Rattle.feed_values.specs.declared.cell_value.CellValue.{CellValue}
 use Rattle.timetable.specs.Timetables.{Tables}
-use Rattle.rule_core.specs.declared.ask.Ask.{Ask}
-use Rattle.rule_core.specs.declared.key.EntityKey.{EntityKey}
-use Rattle.rule_core.specs.Order.{key_cmp, same_key}
-use Rattle.rule_core.specs.Table.{all_rules}
-use Rattle.rule_core.specs.Found.{Found}
-use Rattle.rule_core.specs.Judged.{found_all, head_found_all}
-use Rattle.rule_core.specs.Groups.{Each}
-use Rattle.rule_core.specs.GroupLaws.{each_weaken}
-use Rattle.rule_core.specs.CitedLaws.{both_same}
-use Rattle.rule_core.specs.Pairs.{PairRow, rows_of}
-use Rattle.rule_core.specs.History.{Snapshot, Keyed, now, before, entities, entities_in, entities_of_snapshot, keyed_after, ordered_after, count_id, id_of, below, feed_limit, first_of, second_of}
-use Rattle.rule_core.specs.Answered.{Heads, heads_of, entity_answer, heads_answer, timetable_answer, rows_answer, rows_in, rows, feed_answer, payload_under}
-use Rattle.rule_core.specs.Findings.{entity_findings, feed_findings, findings}
+use Rattle.rule_table.specs.declared.ask.Ask.{Ask}
+use Rattle.rule_table.specs.declared.key.EntityKey.{EntityKey}
+use Rattle.rule_table.specs.Order.{key_cmp, same_key}
+use Rattle.rule_table.specs.Table.{all_rules}
+use Rattle.rule_table.specs.Found.{Found}
+use Rattle.rule_table.specs.Judged.{found_all, head_found_all}
+use Rattle.rule_table.specs.Groups.{Each}
+use Rattle.rule_table.specs.CitedLaws.{both_same}
+use Rattle.rule_table.specs.Pairs.{PairRow, rows_of}
+use Rattle.rule_history.specs.History.{Snapshot, Keyed, now, before, entities, entities_in, entities_of_snapshot, keyed_after, ordered_after, count_id, id_of, below, feed_limit, first_of, second_of}
+use Rattle.rule_table.specs.Answers.{Heads, entity_answer, heads_answer, rows_answer}
+use Rattle.rule_history.specs.Answered.{heads_of, timetable_answer, rows_in, rows, feed_answer, payload_under}
+use Rattle.rule_history.specs.Findings.{entity_findings, feed_findings, findings}
+use Rattle.rule_table.proofs.SameKeys.{keys_total, same-key}
+use Rattle.rule_history.proofs.Keyed.{each_ordered, rising_after, keyed_feed}
 use Rattle.judging.specs.Seats as seat
 use Rattle.judging.specs.Seats.{Seat, Rising, seated_after, seats}
 use Rattle.judging.specs.Whole as whole
@@ -38,58 +36,8 @@ use Rattle.judging.specs.Whole.{entity_found, header_found}
 use Rattle.judging.specs.Judged.{first_heads, seat_rows, found_at_seats, snapshot_found, OneSnapshot}
 
 -- ---- keys in order
-keys_total : IsTotalOrder key_cmp
-keys_total = then_total (on_total (λ k. k.feed) nat_cmp_total) (then_total (on_total (λ k. k.id) nat_list_cmp_total) (on_total (λ k. k.occurrence) nat_cmp_total))
-
-nat-eq : (a b : ℕ) → is_eq (nat_cmp a b) ≡ (a == b)
-nat-eq a b = grind (arith, nat_tests)
-
-then-eq : (o p : Ordering) → is_eq (ordering_then o p) ≡ (is_eq o && is_eq p)
-then-eq order.Less p = refl
-then-eq order.Equal p = refl
-then-eq order.Greater p = refl
-
--- keys compare alike where they are the same
-cmp-same : (a b : EntityKey) → is_eq (key_cmp a b) ≡ (a.feed == b.feed && (bytes_eq a.id b.id && (a.occurrence == b.occurrence)))
-cmp-same a b =
-    then-eq (nat_cmp a.feed b.feed) (ordering_then (slice_cmp nat_cmp a.id b.id) (nat_cmp a.occurrence b.occurrence))
-    ∙ ap (λ x. is_eq (nat_cmp a.feed b.feed) && x) (then-eq (slice_cmp nat_cmp a.id b.id) (nat_cmp a.occurrence b.occurrence))
-    ∙ ap (λ x. x && (is_eq (slice_cmp nat_cmp a.id b.id) && is_eq (nat_cmp a.occurrence b.occurrence))) (nat-eq a.feed b.feed)
-    ∙ ap (λ x. a.feed == b.feed && (x && is_eq (nat_cmp a.occurrence b.occurrence))) (sym (texts_ties a.id b.id))
-    ∙ ap (λ x. a.feed == b.feed && (bytes_eq a.id b.id && x)) (nat-eq a.occurrence b.occurrence)
-
-and_assoc : (a b c : Bool) → (a && (b && c)) ≡ (a && b && c)
-and_assoc true b c = refl
-and_assoc false b c = refl
-
 same_is : (a b : EntityKey) → same_key a b ≡ is_eq (key_cmp a b)
-same_is a b = sym (cmp-same a b ∙ and_assoc (a.feed == b.feed) (bytes_eq a.id b.id) (a.occurrence == b.occurrence))
-
-each_insert : {A : Type 0} (P : EntityKey → Type 0) (es : List (EntityKey × A)) (k : EntityKey) (v : A) → P k → Each (λ d. P d.0) es → Each (λ d. P d.0) (insert_entry key_cmp es k v)
-each_insert P [] k v p h = (p, tt)
-each_insert P (e ∷ es) k v p h =
-    elim (key_cmp k e.0) as (λ o. Each (λ d. P d.0) (match_ordering o ((k, v) ∷ e ∷ es) ((e.0, v) ∷ es) (e ∷ insert_entry key_cmp es k v))) [
-      | order.Less ↦ (p, h)
-      | order.Equal ↦ h
-      | order.Greater ↦ (h.0, each_insert P es k v p h.1)
-    ]
-
-each_after : {A : Type 0} (P : EntityKey → Type 0) (done es : List (EntityKey × A)) → Each (λ d. P d.0) done → Each (λ d. P d.0) es → Each (λ d. P d.0) (ordered_after done es)
-each_after P done [] h m = h
-each_after P done (e ∷ es) h m = each_after P (insert_entry key_cmp done e.0 e.1) es (each_insert P done e.0 e.1 m.0 h) m.1
-
-rising_insert : {A : Type 0} (es : List (EntityKey × A)) (k : EntityKey) (v : A) → Rising es → Rising (insert_entry key_cmp es k v)
-rising_insert [] k v h = (tt, tt)
-rising_insert (e ∷ es) k v h =
-    elim (key_cmp k e.0) as (λ o. key_cmp k e.0 ≡ o → Rising (match_ordering o ((k, v) ∷ e ∷ es) ((e.0, v) ∷ es) (e ∷ insert_entry key_cmp es k v))) [
-      | order.Less ↦ λ l. ((l, each_weaken (λ d. key_cmp e.0 d.0 ≡ order.Less) (λ d. key_cmp k d.0 ≡ order.Less) (λ d m. keys_total.trans k e.0 d.0 l m) es h.0), h)
-      | order.Equal ↦ λ _. h
-      | order.Greater ↦ λ g. (each_insert (λ q. key_cmp e.0 q ≡ order.Less) es k v (keys_total.antisymm e.0 k ∙ ap ordering_reverse g) h.0, rising_insert es k v h.1)
-    ] refl
-
-pub rising_after : {A : Type 0} (done es : List (EntityKey × A)) → Rising done → Rising (ordered_after done es)
-rising_after done [] h = h
-rising_after done (e ∷ es) h = rising_after (insert_entry key_cmp done e.0 e.1) es (rising_insert done e.0 e.1 h)
+same_is a b = sym (same-key a b)
 
 -- under its key each entry of a list in order is found
 abbrev IsFound : List Keyed → Keyed → Type 0
@@ -160,10 +108,6 @@ seats_are f bytes =
 
 pub seats_rise : (f : ℕ) (es : List (Value entity)) → Rising (seats f es)
 seats_rise f es = rising_after [] (seated_after f [] es) tt
-
-keyed_feed : (f : ℕ) (done ps : List (List ℕ)) → Each (λ e. e.0.feed ≡ f) (keyed_after f done ps)
-keyed_feed f done [] = tt
-keyed_feed f done (p ∷ ps) = (refl, keyed_feed f (done ++ p ∷ []) ps)
 
 flat_value : {A : Type 0} (part : Seat → List A) (es : List Keyed) → flat_map (λ e. part (value_of e)) es ≡ flat_map part (map value_of es)
 flat_value part [] = refl
@@ -279,7 +223,7 @@ module _ (t : Option Tables) (s : Snapshot) where
       ∙ ap (feed_findings t h s.feed) now_here
       ∙ both_same (header_is r u)
       (ap (flat_map (entity_findings t h)) entities_here
-      ∙ entities_are r u es (each_after (λ k. k.feed ≡ s.feed) [] (keyed_after s.feed [] (entity_payloads s.bytes)) tt (keyed_feed s.feed [] (entity_payloads s.bytes)))
+      ∙ entities_are r u es (each_ordered (λ k. k.feed ≡ s.feed) [] (keyed_after s.feed [] (entity_payloads s.bytes)) tt (keyed_feed s.feed [] (entity_payloads s.bytes)))
       (each_found es (rising_after [] (keyed_after s.feed [] (entity_payloads s.bytes)) tt))
       ∙ flat_value (λ e. entity_found t r heads e.0 e.1) es
       ∙ ap (found_at_seats t r heads) (seats_are s.feed s.bytes))

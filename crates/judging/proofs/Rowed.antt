@@ -10,17 +10,18 @@ use Rattle.std.proofs.lemmas.List.Elements.{filter-append}
 use Rattle.feed_values.specs.Schema.{Value}
 use Rattle.feed_values.specs.Messages.{entity, trip_update, vehicle_position}
 use Rattle.timetable.specs.Timetables.{Tables}
-use Rattle.rule_core.specs.declared.key.EntityKey.{EntityKey}
-use Rattle.rule_core.specs.declared.kind.Kind.{Kind}
-use Rattle.rule_core.specs.declared.kind.Kind.TheVariants as kind
-use Rattle.rule_core.specs.Kinds.{kind_cmp}
-use Rattle.rule_core.specs.Order.{key_cmp}
-use Rattle.rule_core.specs.Answered.{Heads, local_answer, bound_answer}
-use Rattle.rule_core.specs.Judged.{found_all, update_of}
-use Rattle.rule_core.specs.Groups.{Each}
-use Rattle.rule_core.specs.GroupLaws.{each_append, each_weaken}
-use Rattle.rule_core.specs.CitedLaws.{both_same}
-use Rattle.rule_core.specs.Pairs.{PairRow, update_rows, vehicle_rows, vehicle_of, is_of}
+use Rattle.rule_table.specs.declared.key.EntityKey.{EntityKey}
+use Rattle.rule_table.specs.declared.kind.Kind.{Kind}
+use Rattle.rule_table.specs.declared.kind.Kind.TheVariants as kind
+use Rattle.rule_table.specs.Kinds.{kind_cmp}
+use Rattle.rule_table.specs.Order.{key_cmp}
+use Rattle.rule_table.specs.Answers.{Heads, bound_answer}
+use Rattle.rule_history.specs.Answered.{local_answer}
+use Rattle.rule_table.specs.Judged.{found_all, update_of}
+use Rattle.rule_table.specs.Groups.{Each}
+use Rattle.rule_table.specs.GroupLaws.{each_append, each_weaken}
+use Rattle.rule_table.specs.CitedLaws.{both_same}
+use Rattle.rule_table.specs.Pairs.{PairRow, update_rows, vehicle_rows, vehicle_of, is_of}
 use Rattle.feed_values.specs.Snapshot.{timestamp_of}
 use Rattle.message_rules.specs.Message.{message_rules}
 use Rattle.schedule_rules.specs.Schedule.{schedule_rules}

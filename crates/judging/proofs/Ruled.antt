@@ -1,25 +1,27 @@
 -- The findings of rules at an entity, rule by rule, are those of all rules; and a list that is in the order of its rules is itself
 -- rule by rule.
-use Rattle.std.specs.Prelude.{◌≡◌, ◌⊎◌, ℕ, ◌+◌, ◌≤◌, ◌<◌, ◌==◌, nat_le, Bool, true, false, ◌&&◌, ◌||◌, List, [], ◌∷◌, ◌++◌, filter, Option, Some, slice_get, cond, refl}
+use Rattle.std.specs.Prelude.{◌≡◌, ◌⊎◌, ℕ, ◌+◌, ◌≤◌, ◌<◌, ◌==◌, nat_le, Bool, true, false, ◌&&◌, ◌||◌, List, [], ◌∷◌, ◌++◌, filter, Option, slice_get, cond, refl}
 use Rattle.std.specs.List.{list_all}
 use Rattle.std.proofs.Common.{inl, inr, sym, ap, ◌∙◌, arith}
 use Rattle.std.proofs.lemmas.List.Elements.{filter-append}
 use borrow.Author.Tests.{eqb-true, eqb-false, eq-eqb, ne_eqb, leb-true, leb-false, both_ways}
+use Rattle.std.proofs.lemmas.Bool.{and_parts}
+use Rattle.std.proofs.lemmas.Option.{same_Some}
 use Rattle.feed_values.specs.declared.slot.Slot.{Slot}
 use Rattle.feed_values.specs.declared.cell_value.CellValue.{CellValue}
 use Rattle.feed_values.specs.Schema.{Value}
 use Rattle.feed_values.specs.Messages.{entity}
-use Rattle.rule_core.specs.declared.rule.RuleId.{RuleId}
-use Rattle.rule_core.specs.declared.rule.RuleId.TheVariants.{E001, E002, E003, E004, E006, E009, E011, E012, E013, E015, E016, E017, E018, E019, E020, E021, E022, E023, E024, E025, E030, E031, E032, E033, E034, E035, E036, E037, E038, E039, E040, E041, E042, E043, E044, E045, E046, E047, E048, E049, E050, E051, E052, W001, W002, W003, W005, W006, W007, W008, W009, X002}
-use Rattle.rule_core.specs.declared.ask.Ask.{Ask}
-use Rattle.rule_core.specs.declared.key.EntityKey.{EntityKey}
-use Rattle.rule_core.specs.Rules.{rule_number, same_rule}
-use Rattle.rule_core.specs.Table.{all_rules, slots_of}
-use Rattle.rule_core.specs.Found.{Found}
-use Rattle.rule_core.specs.Judged.{found_in, found_by, found_all}
-use Rattle.rule_core.specs.Groups.{Each, IsOf, IsUnder, has_rule, has_number, are_apart}
-use Rattle.rule_core.specs.GroupLaws.{each_weaken, and_true, row_own, apart_first, apart_rest}
-use Rattle.rule_core.specs.CitedLaws.{both_same}
+use Rattle.rule_table.specs.declared.rule.RuleId.{RuleId}
+use Rattle.rule_table.specs.declared.ask.Ask.{Ask}
+use Rattle.rule_table.specs.declared.key.EntityKey.{EntityKey}
+use Rattle.rule_table.specs.EachRule.{each_rule, numbered}
+use Rattle.rule_table.specs.Rules.{rule_number, same_rule}
+use Rattle.rule_table.specs.Table.{all_rules, slots_of}
+use Rattle.rule_table.specs.Found.{Found}
+use Rattle.rule_table.specs.Judged.{found_in, found_by, found_all}
+use Rattle.rule_table.specs.Groups.{Each, IsOf, IsUnder, has_rule, has_number, are_apart}
+use Rattle.rule_table.specs.GroupLaws.{each_weaken, row_own, apart_first, apart_rest}
+use Rattle.rule_table.specs.CitedLaws.{both_same}
 use Rattle.judging.specs.Ruled.{of_rule, by_rule}
 
 -- ---- lists
@@ -39,119 +41,11 @@ or_false true b h = cc
 or_false false b h = (refl, h)
 
 -- ---- rules by their numbers
-some_same : {A : Type 0} {x y : A} → Some x ≡ Some y → x ≡ y
-some_same h = cc
-
-rule_at : (r : RuleId) → slice_get all_rules (rule_number r) ≡ Some r
-rule_at E001 = refl
-rule_at E002 = refl
-rule_at E003 = refl
-rule_at E004 = refl
-rule_at E006 = refl
-rule_at E009 = refl
-rule_at E011 = refl
-rule_at E012 = refl
-rule_at E013 = refl
-rule_at E015 = refl
-rule_at E016 = refl
-rule_at E017 = refl
-rule_at E018 = refl
-rule_at E019 = refl
-rule_at E020 = refl
-rule_at E021 = refl
-rule_at E022 = refl
-rule_at E023 = refl
-rule_at E024 = refl
-rule_at E025 = refl
-rule_at E030 = refl
-rule_at E031 = refl
-rule_at E032 = refl
-rule_at E033 = refl
-rule_at E034 = refl
-rule_at E035 = refl
-rule_at E036 = refl
-rule_at E037 = refl
-rule_at E038 = refl
-rule_at E039 = refl
-rule_at E040 = refl
-rule_at E041 = refl
-rule_at E042 = refl
-rule_at E043 = refl
-rule_at E044 = refl
-rule_at E045 = refl
-rule_at E046 = refl
-rule_at E047 = refl
-rule_at E048 = refl
-rule_at E049 = refl
-rule_at E050 = refl
-rule_at E051 = refl
-rule_at E052 = refl
-rule_at W001 = refl
-rule_at W002 = refl
-rule_at W003 = refl
-rule_at W005 = refl
-rule_at W006 = refl
-rule_at W007 = refl
-rule_at W008 = refl
-rule_at W009 = refl
-rule_at X002 = refl
-
 same_is : (q r : RuleId) → same_rule q r ≡ true → q ≡ r
-same_is q r h = some_same (sym (rule_at q) ∙ ap (λ n. slice_get all_rules n) (eqb-true (rule_number q) (rule_number r) h) ∙ rule_at r)
+same_is q r h = same_Some q r (sym (numbered q) ∙ ap (λ n. slice_get all_rules n) (eqb-true (rule_number q) (rule_number r) h) ∙ numbered r)
 
 known : (r : RuleId) → has_rule all_rules r ≡ true
-known E001 = refl
-known E002 = refl
-known E003 = refl
-known E004 = refl
-known E006 = refl
-known E009 = refl
-known E011 = refl
-known E012 = refl
-known E013 = refl
-known E015 = refl
-known E016 = refl
-known E017 = refl
-known E018 = refl
-known E019 = refl
-known E020 = refl
-known E021 = refl
-known E022 = refl
-known E023 = refl
-known E024 = refl
-known E025 = refl
-known E030 = refl
-known E031 = refl
-known E032 = refl
-known E033 = refl
-known E034 = refl
-known E035 = refl
-known E036 = refl
-known E037 = refl
-known E038 = refl
-known E039 = refl
-known E040 = refl
-known E041 = refl
-known E042 = refl
-known E043 = refl
-known E044 = refl
-known E045 = refl
-known E046 = refl
-known E047 = refl
-known E048 = refl
-known E049 = refl
-known E050 = refl
-known E051 = refl
-known E052 = refl
-known W001 = refl
-known W002 = refl
-known W003 = refl
-known W005 = refl
-known W006 = refl
-known W007 = refl
-known W008 = refl
-known W009 = refl
-known X002 = refl
+known = each_rule (has_rule all_rules) refl
 
 abbrev is_empty : List Slot → Bool
 is_empty [] = true
@@ -205,7 +99,7 @@ module _ (answer : Ask → Option CellValue) (k : EntityKey) (e : Value entity) 
   pub ruled : (rules all : List RuleId) → are_apart rules ≡ true → list_all (is_covered rules) all ≡ true → by_rule all (found_all rules answer k e) ≡ found_all all answer k e
   ruled rules [] a h = refl
   ruled rules (r ∷ all) a h =
-      let hs = and_true (is_covered rules r) (list_all (is_covered rules) all) h in
+      let hs = and_parts (is_covered rules r) (list_all (is_covered rules) all) h in
       both_same (picked r rules a ∙ rule_is r (has_rule rules r) hs.0) (ruled rules all a hs.1)
 
 -- ---- a list that is in the order of its rules
@@ -221,7 +115,7 @@ rise n (r ∷ rules) = nat_le n (rule_number r) && rise (rule_number r + 1) rule
 below_none : (n : ℕ) (rules : List RuleId) → rise n rules ≡ true → (m : ℕ) → m < n → has_number rules m ≡ false
 below_none n [] h m l = refl
 below_none n (r ∷ rules) h m l =
-    let hs = and_true (nat_le n (rule_number r)) (rise (rule_number r + 1) rules) h in
+    let hs = and_parts (nat_le n (rule_number r)) (rise (rule_number r + 1) rules) h in
     let first : n ≤ rule_number r = leb-true n (rule_number r) hs.0 in
     ap (λ b. b || has_number rules m) (ne_eqb (rule_number r) m (apart (rule_number r) first))
     ∙ below_none (rule_number r + 1) rules hs.1 m (under (rule_number r) first)
@@ -246,11 +140,11 @@ first_stays n [] h f fs has least = cc
 first_stays n (r ∷ rules) h f fs has least =
     elim (rule_number r == rule_number f.rule) as (λ b. (rule_number r == rule_number f.rule) ≡ b → (b || has_rule rules f.rule) ≡ true → by_rule (r ∷ rules) (f ∷ fs) ≡ f ∷ by_rule (r ∷ rules) fs) [
       | true ↦ λ e _. here (eqb-true (rule_number r) (rule_number f.rule) e)
-      | false ↦ λ e m. later e m (first_stays (rule_number r + 1) rules ((and_true (nat_le n (rule_number r)) (rise (rule_number r + 1) rules) h).1) f fs m least)
+      | false ↦ λ e m. later e m (first_stays (rule_number r + 1) rules ((and_parts (nat_le n (rule_number r)) (rise (rule_number r + 1) rules) h).1) f fs m least)
     ] refl has
   where
     rest : rise (rule_number r + 1) rules ≡ true
-    rest = (and_true (nat_le n (rule_number r)) (rise (rule_number r + 1) rules) h).1
+    rest = (and_parts (nat_le n (rule_number r)) (rise (rule_number r + 1) rules) h).1
 
     here : rule_number r ≡ rule_number f.rule → by_rule (r ∷ rules) (f ∷ fs) ≡ f ∷ by_rule (r ∷ rules) fs
     here e =

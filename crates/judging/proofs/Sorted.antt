@@ -4,13 +4,13 @@ use Rattle.std.specs.Ordering.{nat_cmp, is_lt}
 use Rattle.std.specs.List.Sorted.{ties, IsStableByKey, IsNonDecreasingBy}
 use Rattle.std.proofs.Common.{sym, ap, ◌∙◌, arith}
 use borrow.Author.Tests.{ltb-true, ltb-false, eq-eqb, ne_eqb}
-use Rattle.rule_core.specs.declared.rule.RuleId.{RuleId}
-use Rattle.rule_core.specs.declared.place.Place.TheVariants as place
+use Rattle.rule_table.specs.declared.rule.RuleId.{RuleId}
+use Rattle.rule_table.specs.declared.place.Place.TheVariants as place
 use Rattle.feed_values.specs.declared.slot.Slot.TheVariants.{S1}
-use Rattle.rule_core.specs.Rules.{rule_number}
-use Rattle.rule_core.specs.Table.{all_rules}
-use Rattle.rule_core.specs.Found.{Found}
-use Rattle.rule_core.specs.Groups.{Each}
+use Rattle.rule_table.specs.Rules.{rule_number}
+use Rattle.rule_table.specs.Table.{all_rules}
+use Rattle.rule_table.specs.Found.{Found}
+use Rattle.rule_table.specs.Groups.{Each}
 use Rattle.judging.specs.Ruled.{of_rule, in_rule_order}
 use Rattle.judging.proofs.Ruled.{InOrder, settled, same_ruled}
 

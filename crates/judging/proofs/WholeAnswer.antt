@@ -3,11 +3,12 @@ use Rattle.std.specs.Prelude.{◌≡◌, List, Option, Some, None, refl}
 use Rattle.feed_values.specs.Schema.{Value}
 use Rattle.feed_values.specs.Messages.{entity}
 use Rattle.timetable.specs.Timetables.{Tables}
-use Rattle.rule_core.specs.declared.ask.Ask.{Ask}
-use Rattle.rule_core.specs.declared.ask.Ask.TheVariants as ask
-use Rattle.rule_core.specs.declared.key.EntityKey.{EntityKey}
-use Rattle.rule_core.specs.Answered.{Heads, heads_answer, local_answer, pair_answer}
-use Rattle.rule_core.specs.Pairs.{PairRow}
+use Rattle.rule_table.specs.declared.ask.Ask.{Ask}
+use Rattle.rule_table.specs.declared.ask.Ask.TheVariants as ask
+use Rattle.rule_table.specs.declared.key.EntityKey.{EntityKey}
+use Rattle.rule_table.specs.Answers.{Heads, heads_answer, pair_answer}
+use Rattle.rule_history.specs.Answered.{local_answer}
+use Rattle.rule_table.specs.Pairs.{PairRow}
 use Rattle.judging.specs.Answering.{answered_by}
 use Rattle.judging.specs.declared.entity_answers.Answering.TheVariants as by
 use Rattle.judging.specs.Whole.{whole_answer}

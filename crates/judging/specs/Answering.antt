@@ -1,6 +1,6 @@
 -- What answers an ask at an entity: the entity and the timetable, the headers, or the pairing rows.
-use Rattle.rule_core.specs.declared.ask.Ask.{Ask}
-use Rattle.rule_core.specs.declared.ask.Ask.TheVariants as ask
+use Rattle.rule_table.specs.declared.ask.Ask.{Ask}
+use Rattle.rule_table.specs.declared.ask.Ask.TheVariants as ask
 use Rattle.judging.specs.declared.entity_answers.Answering.{Answering}
 use Rattle.judging.specs.declared.entity_answers.Answering.TheVariants.{Local, Heads, Pairs}
 

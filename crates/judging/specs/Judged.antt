@@ -6,16 +6,16 @@ use Rattle.feed_values.specs.Messages.{feed_header, entity}
 use Rattle.feed_values.specs.Snapshot.{header_of, entities_of}
 use Rattle.feed_values.specs.declared.cell_value.CellValue.{CellValue}
 use Rattle.timetable.specs.Timetables.{Tables}
-use Rattle.rule_core.specs.declared.ask.Ask.{Ask}
-use Rattle.rule_core.specs.declared.key.EntityKey.{EntityKey}
-use Rattle.rule_core.specs.Answered.{Heads}
-use Rattle.rule_core.specs.Found.{Found}
+use Rattle.rule_table.specs.declared.ask.Ask.{Ask}
+use Rattle.rule_table.specs.declared.key.EntityKey.{EntityKey}
+use Rattle.rule_table.specs.Answers.{Heads}
+use Rattle.rule_table.specs.Found.{Found}
 use Rattle.std.specs.BTreeSet.{insert_key}
 use Rattle.pairing_rules.specs.Rows.{row_cmp}
-use Rattle.rule_core.specs.Judged.{update_of}
-use Rattle.rule_core.specs.Pairs.{PairRow, rows_of, update_rows, vehicle_rows, vehicle_of}
-use Rattle.rule_core.specs.History.{Snapshot, feed_limit}
-use Rattle.rule_core.specs.Findings.{findings}
+use Rattle.rule_table.specs.Judged.{update_of}
+use Rattle.rule_table.specs.Pairs.{PairRow, rows_of, update_rows, vehicle_rows, vehicle_of}
+use Rattle.rule_history.specs.History.{Snapshot, feed_limit}
+use Rattle.rule_history.specs.Findings.{findings}
 use Rattle.judging.specs.Seats.{Seat, seats}
 use Rattle.judging.specs.Whole.{entity_found, header_found, whole_answer}
 

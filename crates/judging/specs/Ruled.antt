@@ -1,9 +1,10 @@
 -- Findings rule by rule, in the order of the rules' texts, and those of one rule as they stood.
-use Rattle.std.specs.Prelude.{◌++◌, Bool, List, [], ◌∷◌, filter}
-use Rattle.rule_core.specs.declared.rule.RuleId.{RuleId}
-use Rattle.rule_core.specs.Rules.{same_rule}
-use Rattle.rule_core.specs.Table.{all_rules}
-use Rattle.rule_core.specs.Found.{Found}
+use Rattle.std.specs.Prelude.{◌≡◌, ◌++◌, Bool, List, [], ◌∷◌, filter, length, refl}
+use Rattle.rule_table.specs.declared.rule.RuleId.{RuleId}
+use Rattle.rule_table.specs.Rules.{same_rule}
+use Rattle.rule_table.specs.Table.{all_rules}
+use Rattle.rule_table.specs.Asks.{has_places}
+use Rattle.rule_table.specs.Found.{Found}
 
 abbrev pub of_rule : RuleId → Found → Bool
 of_rule rule f = same_rule f.rule rule
@@ -15,3 +16,12 @@ by_rule (rule ∷ rules) fs = filter (of_rule rule) fs ++ by_rule rules fs
 -- findings in the order of all rules
 unfoldable pub in_rule_order : List Found → List Found
 in_rule_order fs = by_rule all_rules fs
+
+-- ---- the rules with places at an entity, which are those of its groups
+unfoldable pub entity_rules : List RuleId
+entity_rules = filter has_places all_rules
+
+-- how many they are
+pub entity_count : length entity_rules ≡ 45
+unfolding entity_rules
+entity_count = refl

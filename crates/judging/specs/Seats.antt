@@ -1,17 +1,14 @@
 -- The entities of a snapshot under their keys.
-use Rattle.std.specs.Prelude.{◌≡◌, ℕ, ◌+◌, List, [], ◌∷◌, ◌++◌, map, unwrap_or, bytes_eq, String, if◌then◌else◌}
-use Rattle.std.specs.BTreeMap.{BTreeMap, get_by_text}
-use Rattle.std.specs.declared.alloc.Global.{Global}
+use Rattle.std.specs.Prelude.{ℕ, ◌+◌, List, [], ◌∷◌, ◌++◌, map, bytes_eq, if◌then◌else◌}
 use denote.Ref.{Bor}
+pub use Rattle.rule_table.specs.Counts.{count_in}
+pub use Rattle.rule_table.specs.Rises.{Rising}
 use Rattle.feed_values.specs.Schema.{Value}
 use Rattle.feed_values.specs.Messages.{entity}
 use Rattle.feed_values.specs.declared.entity.Entity.{Entity}
 use Rattle.feed_values.specs.Views.{entity_value}
-use Rattle.rule_core.specs.declared.key.EntityKey.{EntityKey}
-use Rattle.rule_core.specs.Order.{key_cmp}
-use Rattle.rule_core.specs.Groups.{Each}
-use Rattle.rule_core.specs.History.{ordered_after}
-use Rattle.std.specs.declared.cmp.Ordering.TheVariants as order
+use Rattle.rule_table.specs.declared.key.EntityKey.{EntityKey}
+use Rattle.rule_history.specs.History.{ordered_after}
 
 -- an entity under its key
 abbrev pub Seat : Type 0
@@ -38,12 +35,3 @@ seats f es = ordered_after [] (seated_after f [] es)
 -- entries by the values of their entities
 abbrev pub seat_values : List (EntityKey × Bor Entity) → List Seat
 seat_values entries = map (λ e. (e.0, entity_value e.1.now)) entries
-
--- how often an id was counted
-abbrev pub count_in : BTreeMap (String Global) ℕ → List ℕ → ℕ
-count_in counts id = unwrap_or (get_by_text counts id) 0
-
--- each key is below those after it
-abbrev pub Rising : {A : Type 0} → List (EntityKey × A) → Type 0
-Rising [] = Unit {0}
-Rising (e ∷ es) = Each (λ d. key_cmp e.0 d.0 ≡ order.Less) es × Rising es

@@ -5,13 +5,14 @@ use Rattle.feed_values.specs.Schema.{Value}
 use Rattle.feed_values.specs.Messages.{entity}
 use Rattle.feed_values.specs.declared.cell_value.CellValue.{CellValue}
 use Rattle.timetable.specs.Timetables.{Tables}
-use Rattle.rule_core.specs.declared.ask.Ask.{Ask}
-use Rattle.rule_core.specs.declared.key.EntityKey.{EntityKey}
-use Rattle.rule_core.specs.Answered.{Heads, entity_answer, heads_answer, timetable_answer, rows_answer}
-use Rattle.rule_core.specs.Found.{Found}
-use Rattle.rule_core.specs.Judged.{found_all, head_found_all}
-use Rattle.rule_core.specs.Pairs.{PairRow}
-use Rattle.rule_core.specs.Table.{all_rules}
+use Rattle.rule_table.specs.declared.ask.Ask.{Ask}
+use Rattle.rule_table.specs.declared.key.EntityKey.{EntityKey}
+use Rattle.rule_table.specs.Answers.{Heads, entity_answer, heads_answer, rows_answer}
+use Rattle.rule_history.specs.Answered.{timetable_answer}
+use Rattle.rule_table.specs.Found.{Found}
+use Rattle.rule_table.specs.Judged.{found_all, head_found_all}
+use Rattle.rule_table.specs.Pairs.{PairRow}
+use Rattle.rule_table.specs.Table.{all_rules}
 
 -- what is answered of a feed: by its headers, the timetable and the pairing rows
 abbrev pub feed_answer : Option Tables → List PairRow → Heads → Ask → Option CellValue

@@ -2,15 +2,16 @@
 ghost use Rattle.std.specs.Prelude.{◌≡◌, option_copied};
 ghost use Rattle.std.specs.Option.{option_map};
 ghost use Rattle.feed_values.specs.Views.{entity_value, feed_header_value};
-ghost use Rattle.rule_core.specs.Answered.{tables_of};
-ghost use Rattle.rule_core.specs.Asked.{ask_value};
+ghost use Rattle.rule_history.specs.Answered.{tables_of};
+ghost use Rattle.rule_table.specs.Asked.{ask_value};
 ghost use Rattle.judging.specs.Answering.{answered_by};
 ghost use Rattle.judging.specs.Whole.{whole_answer};
 
 use feed_values::{CellRef, Path};
 use history_rules::HeadAnswers;
 use pairing_rules::PairAnswers;
-use rule_core::{Answers, AskRef, LocalAnswers, PairView};
+use rule_clear::LocalAnswers;
+use rule_table::{Answers, AskRef, PairView};
 
 /// What answers an ask.
 #[derive(Clone, Copy, Debug)]

@@ -5,11 +5,12 @@ ghost use Rattle.std.specs.Option.{option_map};
 ghost use Rattle.feed_values.specs.Schema.{Value};
 ghost use Rattle.feed_values.specs.Messages as messages;
 ghost use Rattle.feed_values.specs.Views.{entity_value, feed_header_value};
-ghost use Rattle.rule_core.specs.Answered.{Heads, tables_of};
-ghost use Rattle.rule_core.specs.Judged.{found_all};
-ghost use Rattle.rule_core.specs.Marked.{marked, marked_at};
-ghost use Rattle.rule_core.specs.Pairs.{PairRow};
-ghost use Rattle.rule_core.specs.declared.key.EntityKey.{EntityKey};
+ghost use Rattle.rule_table.specs.Answers.{Heads};
+ghost use Rattle.rule_history.specs.Answered.{tables_of};
+ghost use Rattle.rule_table.specs.Judged.{found_all};
+ghost use Rattle.rule_table.specs.Marked.{marked, marked_at};
+ghost use Rattle.rule_table.specs.Pairs.{PairRow};
+ghost use Rattle.rule_table.specs.declared.key.EntityKey.{EntityKey};
 ghost use Rattle.judging.specs.Judged.{first_answer, first_heads};
 ghost use Rattle.judging.specs.Whole.{entity_found, whole_answer};
 
@@ -18,69 +19,15 @@ use feed_values::{Entity, FeedHeader, Items};
 use history_rules::HeadAnswers;
 use pairing_rules::PairAnswers;
 use rt_outside::Steps;
-use rule_core::{
-    Clear, EntityKey, Finding, FindingList, LocalAnswers, Mark, PairView, RuleId, judge_mark,
-    mark_rules,
+use rule_clear::{Clear, LocalAnswers};
+use rule_table::{
+    EntityKey, Finding, FindingList, Mark, PairView, RuleId, all_rules, judge_mark, mark_rules,
 };
 use std::alloc::{AllocError, Global};
 use std::sync::ledger::Ledger;
 use timetable::Timetable;
 
-const RULES: &[RuleId] = &[
-    RuleId::E001,
-    RuleId::E002,
-    RuleId::E003,
-    RuleId::E004,
-    RuleId::E006,
-    RuleId::E009,
-    RuleId::E011,
-    RuleId::E012,
-    RuleId::E013,
-    RuleId::E015,
-    RuleId::E016,
-    RuleId::E017,
-    RuleId::E018,
-    RuleId::E019,
-    RuleId::E020,
-    RuleId::E021,
-    RuleId::E022,
-    RuleId::E023,
-    RuleId::E024,
-    RuleId::E025,
-    RuleId::E030,
-    RuleId::E031,
-    RuleId::E032,
-    RuleId::E033,
-    RuleId::E034,
-    RuleId::E035,
-    RuleId::E036,
-    RuleId::E037,
-    RuleId::E038,
-    RuleId::E039,
-    RuleId::E040,
-    RuleId::E041,
-    RuleId::E042,
-    RuleId::E043,
-    RuleId::E044,
-    RuleId::E045,
-    RuleId::E046,
-    RuleId::E047,
-    RuleId::E048,
-    RuleId::E049,
-    RuleId::E050,
-    RuleId::E051,
-    RuleId::E052,
-    RuleId::W001,
-    RuleId::W002,
-    RuleId::W003,
-    RuleId::W005,
-    RuleId::W006,
-    RuleId::W007,
-    RuleId::W008,
-    RuleId::W009,
-    RuleId::X002,
-];
-
+// Those of the table that ask the timetable for nothing.
 const RULES_BESIDE_TIMETABLE: &[RuleId] = &[
     RuleId::E001,
     RuleId::E002,
@@ -125,7 +72,7 @@ fn rules_with(table: &Timetable) -> &'static [RuleId]
         → found_all result.now (whole_answer (tables_of table.now) rows heads key e) key e ≡ entity_found (tables_of table.now) rows heads key e }
 {
     if table.is_present() {
-        RULES
+        all_rules()
     } else {
         RULES_BESIDE_TIMETABLE
     }
@@ -184,7 +131,7 @@ pub fn marks_at<P: PairView, L: Ledger>(
     let clear = Clear::of(table, entity);
     let mut marks = Vec::new(alloc);
     let rules = rules_with(table);
-    mark_rules(&answers, clear, rules, key, entity, &mut marks, tests)?;
+    mark_rules(&answers, &clear, rules, key, entity, &mut marks, tests)?;
     Ok(marks)
 }
 

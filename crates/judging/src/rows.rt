@@ -1,81 +1,40 @@
 //! The pairing rows of a snapshot.
-ghost use Rattle.std.specs.Prelude.{◌≡◌, [], ◌∷◌, Option, Some, IfOk, option_and_then};
+ghost use Rattle.std.specs.Prelude.{◌≡◌, IfOk, Option, option_copied};
 ghost use Rattle.std.specs.Option.{option_map};
-ghost use Rattle.feed_values.specs.Views.{trip_update_value, vehicle_position_value, vehicle_descriptor_value, trip_descriptor_value};
+ghost use Rattle.feed_values.specs.Views.{trip_update_value, vehicle_position_value};
 ghost use Rattle.timetable.specs.Timetables.{Tables};
-ghost use Rattle.rule_core.specs.Answered.{Heads};
-ghost use Rattle.rule_core.specs.Pairs.{update_rows, vehicle_rows, trip_id_in, vehicle_id_in};
+ghost use Rattle.rule_table.specs.Answers.{Heads};
+ghost use Rattle.rule_table.specs.Pairs.{update_rows, vehicle_rows, row_with};
+ghost use Rattle.rule_table.specs.Ids.{ids_value};
 ghost use Rattle.pairing_rules.specs.Rows.{pair_row};
 ghost use Rattle.judging.specs.Seats.{Rising, seat_values};
 ghost use Rattle.pairing_rules.specs.ByKind.{AreAlike};
 ghost use Rattle.judging.specs.Judged.{found_at_seats, put_rows, seat_rows, update_rows_of, vehicle_rows_of};
 
-use feed_values::{Entity, Text, TripDescriptor, TripUpdate, VehicleDescriptor, VehiclePosition};
+use feed_values::{Entity, Text, TripUpdate, VehiclePosition};
 use pairing_rules::{PairIndex, PairRow};
-use rule_core::{EntityKey, Kind};
+use rule_table::{EntityKey, Ids, Kind, ids_of_update, ids_of_vehicle};
 use std::alloc::{AllocError, Global};
 use std::collections::BTreeMap;
 
-fn copied(alloc: Global, text: &Option<Text>) -> Result<Option<Text>, AllocError>
-    ensures { IfOk result (λ copy. copy ≡ text.now) }
+fn copied(alloc: Global, id: Option<&Text>) -> Result<Option<Text>, AllocError>
+    ensures { IfOk result (λ copy. copy ≡ option_copied id.entry) }
 {
-    match text {
+    match id {
         None => Ok(None),
-        Some(text) => Ok(Some(text.clone(alloc)?)),
+        Some(id) => Ok(Some(id.clone(alloc)?)),
     }
 }
 
-fn vehicle_id(
-    alloc: Global,
-    vehicle: &Option<VehicleDescriptor>,
-) -> Result<Option<Text>, AllocError>
-    ensures { IfOk result (λ id. id ≡ vehicle_id_in (option_map vehicle_descriptor_value vehicle.now)) }
-{
-    match vehicle {
-        None => Ok(None),
-        Some(vehicle) => copied(alloc, &vehicle.id),
-    }
-}
-
-fn trip_id(alloc: Global, trip: &Option<TripDescriptor>) -> Result<Option<Text>, AllocError>
-    ensures { IfOk result (λ id. id ≡ option_and_then trip_id_in (option_map trip_descriptor_value trip.now)) }
-{
-    match trip {
-        None => Ok(None),
-        Some(trip) => copied(alloc, &trip.trip_id),
-    }
-}
-
-/// The row of a trip update.
-fn update_row(alloc: Global, key: &EntityKey, update: &TripUpdate) -> Result<PairRow, AllocError>
-    ensures { IfOk result (λ row. pair_row row ∷ [] ≡ update_rows key.now (Some (trip_update_value update.now))) }
+/// The row of a message that gives these ids.
+fn row_of(alloc: Global, kind: Kind, key: &EntityKey, ids: Ids<'_>) -> Result<PairRow, AllocError>
+    ensures { IfOk result (λ row. pair_row row ≡ row_with kind key.now (ids_value ids.entry)) }
 {
     let id = key.id.clone(alloc)?;
-    let trip = copied(alloc, &update.trip.trip_id)?;
-    let vehicle = vehicle_id(alloc, &update.vehicle)?;
+    let trip = copied(alloc, ids.trip)?;
+    let vehicle = copied(alloc, ids.vehicle)?;
     Ok(PairRow {
-        kind: Kind::TripUpdate,
-        feed: key.feed,
-        id,
-        occurrence: key.occurrence,
-        trip,
-        vehicle,
-    })
-}
-
-/// The row of a vehicle position.
-fn vehicle_row(
-    alloc: Global,
-    key: &EntityKey,
-    position: &VehiclePosition,
-) -> Result<PairRow, AllocError>
-    ensures { IfOk result (λ row. pair_row row ∷ [] ≡ vehicle_rows key.now (Some (vehicle_position_value position.now))) }
-{
-    let id = key.id.clone(alloc)?;
-    let trip = trip_id(alloc, &position.trip)?;
-    let vehicle = vehicle_id(alloc, &position.vehicle)?;
-    Ok(PairRow {
-        kind: Kind::Vehicle,
+        kind,
         feed: key.feed,
         id,
         occurrence: key.occurrence,
@@ -96,7 +55,7 @@ fn add_update(
     match update {
         None => Ok(index),
         Some(update) => {
-            let row = update_row(alloc, key, update)?;
+            let row = row_of(alloc, Kind::TripUpdate, key, ids_of_update(update))?;
             let next = index.add(row)?;
             Ok(next)
         }
@@ -115,7 +74,7 @@ fn add_vehicle(
     match position {
         None => Ok(index),
         Some(position) => {
-            let row = vehicle_row(alloc, key, position)?;
+            let row = row_of(alloc, Kind::Vehicle, key, ids_of_vehicle(position))?;
             let next = index.add(row)?;
             Ok(next)
         }

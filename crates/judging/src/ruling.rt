@@ -3,7 +3,7 @@ ghost use Rattle.std.specs.Prelude.{◌≡◌, IfOk};
 ghost use Rattle.judging.specs.Ruled.{in_rule_order};
 
 use feed_values::Items;
-use rule_core::Finding;
+use rule_table::Finding;
 use std::alloc::AllocError;
 
 /// Findings rule by rule, in the order of the rules' texts; those of one rule stay in their order.

@@ -1,13 +1,14 @@
 //! The group.
 ghost use Rattle.std.specs.Prelude.{◌≡◌, refl};
-ghost use Rattle.rule_core.specs.Answered.{local_answer};
-ghost use Rattle.rule_core.specs.Judged.{found_all};
-ghost use Rattle.rule_core.specs.GroupLaws.{all_own, all_once};
+ghost use Rattle.rule_history.specs.Answered.{local_answer};
+ghost use Rattle.rule_table.specs.Judged.{found_all};
+ghost use Rattle.rule_table.specs.GroupLaws.{all_own, all_once};
 ghost use Rattle.message_rules.specs.Message.{error_rules, other_rules, message_rules};
 
 use feed_values::Entity;
 use rt_outside::Steps;
-use rule_core::{Both, EntityKey, FindingList, Listed, LocalRule, RuleId, Rules};
+use rule_clear::{Listed, LocalRule};
+use rule_table::{Both, EntityKey, FindingList, RuleId, Rules};
 use std::alloc::{AllocError, Global};
 use std::sync::ledger::Ledger;
 use timetable::Timetable;
@@ -40,7 +41,7 @@ const OTHERS: &[RuleId] = &[
     RuleId::X002,
 ];
 
-/// The 22 rules within one message, in the order of their texts.
+/// The rules within one message, in the order of their texts.
 #[derive(Drop)]
 pub struct MessageGroup {
     inner: Both<Listed, Listed>,

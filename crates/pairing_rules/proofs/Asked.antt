@@ -2,9 +2,9 @@
 use Rattle.std.proofs.Common.{◌≡◌, ◌==◌, ◌&&◌, ◌||◌, ℕ, Bool, true, false, List, Option, Some, None, refl, sym, ◌∙◌, ap}
 use Rattle.std.specs.Prelude.{map, option_map, option_and_then, is_some}
 use Rattle.std.specs.List.{filter, find, list_any}
-use Rattle.rule_core.specs.declared.kind.Kind.{Kind}
-use Rattle.rule_core.specs.declared.kind.Kind.TheVariants.{Vehicle}
-use Rattle.rule_core.specs.Pairs.{PairRow, is_of, is_id, has_trip, has_vehicle, has_pair, first_vehicle, first_key}
+use Rattle.rule_table.specs.declared.kind.Kind.{Kind}
+use Rattle.rule_table.specs.declared.kind.Kind.TheVariants.{Vehicle}
+use Rattle.rule_table.specs.Pairs.{PairRow, is_of, is_id, has_trip, has_vehicle, has_pair, first_vehicle, first_key}
 use Rattle.pairing_rules.specs.Numbers.{Numbers, AreApart, number_of, is_number, where_given, where_missing}
 use Rattle.pairing_rules.specs.Slots.{seen_at, shown, vehicle_in, key_in}
 use Rattle.pairing_rules.specs.Index.{AreIndexed, belongs, paired_number, unpaired_number, vehicle_number}

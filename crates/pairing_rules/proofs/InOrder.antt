@@ -10,7 +10,7 @@ use Rattle.std.specs.BTreeMap.{is_at}
 use Rattle.std.specs.BTreeSet.{insert_key}
 use Rattle.std.specs.Set.{remove_key}
 use Rattle.std.proofs.lemmas.Map.Lookups.{CmpEqualImpliesEq}
-use Rattle.rule_core.specs.Pairs.{PairRow}
+use Rattle.rule_table.specs.Pairs.{PairRow}
 use Rattle.pairing_rules.specs.Rows.{row_cmp, in_order}
 use Rattle.pairing_rules.proofs.Order.{rows_total, exact_rows}
 use Rattle.pairing_rules.proofs.Lists.{all-insert, all-remove}

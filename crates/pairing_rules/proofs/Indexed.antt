@@ -11,10 +11,10 @@ use Rattle.std.specs.List.Sorted.{IsStrictlySortedBy}
 use Rattle.std.specs.BTreeMap.{is_at}
 use Rattle.std.specs.BTreeSet.{BTreeSet, insert_key}
 use Rattle.std.specs.Set.{remove_key}
-use Rattle.rule_core.specs.declared.kind.Kind.{Kind}
-use Rattle.rule_core.specs.Kinds.{same_kind}
-use Rattle.rule_core.specs.Order.{key_cmp}
-use Rattle.rule_core.specs.Pairs.{PairRow, is_of}
+use Rattle.rule_table.specs.declared.kind.Kind.{Kind}
+use Rattle.rule_table.specs.Kinds.{same_kind}
+use Rattle.rule_table.specs.Order.{key_cmp}
+use Rattle.rule_table.specs.Pairs.{PairRow, is_of}
 use Rattle.pairing_rules.specs.declared.entry.Entry.{Entry}
 use Rattle.pairing_rules.specs.Numbers.{Numbers, is_number, numbered, where_given, where_missing}
 use Rattle.pairing_rules.specs.Rows.{row_cmp, id_cmp}

@@ -6,7 +6,7 @@ use Rattle.std.proofs.lemmas.Slice.Eq.{bytes_eq-Decides}
 use Rattle.pairing_rules.specs.Numbers.{Numbers, AreApart, number_of, is_number, is_named, numbered}
 use Rattle.pairing_rules.specs.declared.seat.Seat.{Seat}
 use Rattle.pairing_rules.specs.Seats.{seat_in, seat_of}
-use Rattle.rule_core.specs.Pairs.{PairRow, is_id}
+use Rattle.rule_table.specs.Pairs.{PairRow, is_id}
 
 -- n is the number of the text from then on
 pub given-next : (number new : List ℕ → Option ℕ) (last n : ℕ) (text : List ℕ) → AreApart number last → n + 1 ≡ last → last < 2 ^ 32 → ((other : List ℕ) → new other ≡ cond (bytes_eq text other) (Some n) (number other)) → AreApart new n

@@ -11,24 +11,22 @@ use Rattle.std.specs.Cmp.Lexicographic.{slice_cmp, nat_list_cmp_total, options_t
 use Rattle.std.proofs.lemmas.Cmp.{nat_cmp_total, on_total, then_total}
 use Rattle.std.proofs.lemmas.Map.Text.{is_eq-slice_cmp}
 use Rattle.std.proofs.lemmas.Map.Lookups.{CmpEqualImpliesEq, exact_unsigned, exact_bytes}
-use Rattle.rule_core.specs.declared.key.EntityKey.{EntityKey}
-use Rattle.rule_core.specs.declared.kind.Kind.{Kind}
-use Rattle.rule_core.specs.declared.kind.Kind.TheVariants.{TripUpdate, Vehicle}
-use Rattle.rule_core.specs.Kinds.{kind_cmp, same_kind, kinds_total}
-use Rattle.rule_core.specs.Order.{key_cmp, same_key}
-use Rattle.rule_core.specs.Pairs.{PairRow}
+use Rattle.rule_table.specs.declared.key.EntityKey.{EntityKey}
+use Rattle.rule_table.specs.declared.kind.Kind.{Kind}
+use Rattle.rule_table.specs.declared.kind.Kind.TheVariants.{TripUpdate, Vehicle}
+use Rattle.rule_table.specs.Kinds.{kind_cmp, same_kind, kinds_total}
+use Rattle.rule_table.specs.Order.{key_cmp, same_key}
+use Rattle.rule_table.specs.Pairs.{PairRow}
 use Rattle.std.specs.declared.alloc.Global.{Global}
 use Rattle.std.specs.declared.rc.Rc.{Rc}
 use Rattle.pairing_rules.specs.Numbers.{is_number}
 use Rattle.pairing_rules.specs.Rows.{row_cmp, id_cmp, held_row}
 use Rattle.pairing_rules.specs.declared.entry.Entry.{Entry}
+pub use Rattle.rule_table.proofs.SameKeys.{keys_total, same-key, then-eq, same-number}
 use Rattle.pairing_rules.specs.declared.held.Held.{Held}
 use Rattle.pairing_rules.specs.declared.seat.Seat.{Seat}
 use Rattle.pairing_rules.specs.Seats.{seat_cmp, low_seat, is_pair}
 use Rattle.pairing_rules.specs.Slots.{seen, seen_cmp, held_cmp, entry_cmp, at_place, low}
-
-pub keys_total : IsTotalOrder key_cmp
-keys_total = then_total (on_total (λ k. k.feed) nat_cmp_total) (then_total (on_total (λ k. k.id) nat_list_cmp_total) (on_total (λ k. k.occurrence) nat_cmp_total))
 
 ids_total : IsTotalOrder id_cmp
 ids_total = options_total nat_list_cmp_total
@@ -227,14 +225,6 @@ place-less x z h = less-after2 (nat_cmp x.number z.number) (kind_cmp x.kind z.ki
 pub feed-less : (x z : Entry) → entry_cmp x z ≡ Less → is_gt (feed_cmp x z) ≡ false
 feed-less x z h = less-after (nat_cmp x.number z.number) (kind_cmp x.kind z.kind) (nat_cmp x.feed z.feed) _ h
 
-pub then-eq : (a b : Ordering) → is_eq (ordering_then a b) ≡ (is_eq a && is_eq b)
-then-eq Less b = refl
-then-eq Equal b = refl
-then-eq Greater b = refl
-
-pub same-number : (a b : ℕ) → is_eq (nat_cmp a b) ≡ (a == b)
-same-number a b = sym (unsigned_ties a b)
-
 pub turned : (a b : ℕ) → is_eq (nat_cmp a b) ≡ (b == a)
 turned a b = grind (arith, nat_tests)
 
@@ -243,10 +233,6 @@ turned-kind TripUpdate TripUpdate = refl
 turned-kind TripUpdate Vehicle = refl
 turned-kind Vehicle TripUpdate = refl
 turned-kind Vehicle Vehicle = refl
-
-and-apart : (a b c : Bool) → ((a && b) && c) ≡ (a && (b && c))
-and-apart true b c = refl
-and-apart false b c = refl
 
 pub place-eq : (n : ℕ) (k : Kind) (x : Entry) → is_eq (place_cmp (low n k 0) x) ≡ at_place n k x
 place-eq n k x = then-eq (nat_cmp n x.number) (kind_cmp k x.kind) ∙ ap (λ b. b && is_eq (kind_cmp k x.kind)) (turned n x.number) ∙ ap (λ b. (x.number == n) && b) (turned-kind k x.kind)
@@ -297,12 +283,3 @@ pair-eq k t v s =
     ∙ ap (λ b. (b && is_eq (option_cmp nat_cmp (Some t) s.trip)) && is_eq (option_cmp nat_cmp (Some v) s.vehicle)) (turned-kind k s.kind)
     ∙ ap (λ b. (same_kind s.kind k && b) && is_eq (option_cmp nat_cmp (Some v) s.vehicle)) (number-eq t s.trip)
     ∙ ap (λ b. (same_kind s.kind k && is_number t s.trip) && b) (number-eq v s.vehicle)
-
--- keys that compare alike are the same
-pub same-key : (a b : EntityKey) → eq_by_cmp key_cmp a b ≡ same_key a b
-same-key a b =
-    then-eq (nat_cmp a.feed b.feed) (ordering_then (slice_cmp nat_cmp a.id b.id) (nat_cmp a.occurrence b.occurrence))
-    ∙ ap (λ x. x && is_eq (ordering_then (slice_cmp nat_cmp a.id b.id) (nat_cmp a.occurrence b.occurrence))) (same-number a.feed b.feed)
-    ∙ ap (λ x. (a.feed == b.feed) && x) (then-eq (slice_cmp nat_cmp a.id b.id) (nat_cmp a.occurrence b.occurrence)
-    ∙ ap (λ x. x && is_eq (nat_cmp a.occurrence b.occurrence)) (is_eq-slice_cmp a.id b.id) ∙ ap (λ x. bytes_eq a.id b.id && x) (same-number a.occurrence b.occurrence))
-    ∙ sym (and-apart (a.feed == b.feed) (bytes_eq a.id b.id) (a.occurrence == b.occurrence))

@@ -12,7 +12,7 @@ use Rattle.std.specs.BTreeSet.{insert_key}
 use Rattle.std.specs.Set.{remove_key}
 use Rattle.std.specs.Map.Iter.{TakesFirst, deref}
 use denote.Ref.{Bor}
-use Rattle.rule_core.specs.declared.kind.Kind.{Kind}
+use Rattle.rule_table.specs.declared.kind.Kind.{Kind}
 use Rattle.pairing_rules.specs.declared.entry.Entry.{Entry}
 use Rattle.pairing_rules.specs.Slots.{Seen, seen, seen_cmp, entry_cmp, at_place, low}
 use Rattle.pairing_rules.proofs.Order.{entries_total, tied-place, place-cmp, place_cmp, feed_cmp, places_total, feeds_total, place-le, feed-le, place-less, feed-less, place-eq, feed-eq}

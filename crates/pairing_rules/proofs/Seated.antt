@@ -13,9 +13,9 @@ use Rattle.std.specs.Map.{keys_of, lookup, remove_entry}
 use Rattle.std.specs.BTreeMap.{is_at, insert_entry}
 use Rattle.std.specs.BTreeSet.{insert_key}
 use Rattle.std.specs.Set.{remove_key}
-use Rattle.rule_core.specs.declared.kind.Kind.{Kind}
-use Rattle.rule_core.specs.Kinds.{kind_cmp, same_kind, kinds_total}
-use Rattle.rule_core.specs.Pairs.{PairRow, is_of, is_id, any_row, has_pair}
+use Rattle.rule_table.specs.declared.kind.Kind.{Kind}
+use Rattle.rule_table.specs.Kinds.{kind_cmp, same_kind, kinds_total}
+use Rattle.rule_table.specs.Pairs.{PairRow, is_of, is_id, any_row, has_pair}
 use Rattle.pairing_rules.specs.declared.held.Held.{Held}
 use Rattle.pairing_rules.specs.declared.seat.Seat.{Seat}
 use Rattle.pairing_rules.specs.Numbers.{Numbers, AreApart, is_number, numbered}

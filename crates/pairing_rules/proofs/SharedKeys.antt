@@ -9,12 +9,12 @@ use Rattle.std.specs.BTreeMap.{is_at}
 use Rattle.std.specs.BTreeMap.Range.{range_contains}
 use Rattle.std.specs.declared.ops.Bound.TheVariants.{Included, Excluded}
 use Rattle.std.specs.BTreeSet.{BTreeSet}
-use Rattle.rule_core.specs.declared.key.EntityKey.{EntityKey}
-use Rattle.rule_core.specs.declared.kind.Kind.{Kind}
-use Rattle.rule_core.specs.declared.kind.Kind.TheVariants.{TripUpdate, Vehicle}
-use Rattle.rule_core.specs.Kinds.{same_kind}
-use Rattle.rule_core.specs.Order.{key_cmp, same_key}
-use Rattle.rule_core.specs.Pairs.{PairRow, is_id, shares_id}
+use Rattle.rule_table.specs.declared.key.EntityKey.{EntityKey}
+use Rattle.rule_table.specs.declared.kind.Kind.{Kind}
+use Rattle.rule_table.specs.declared.kind.Kind.TheVariants.{TripUpdate, Vehicle}
+use Rattle.rule_table.specs.Kinds.{same_kind}
+use Rattle.rule_table.specs.Order.{key_cmp, same_key}
+use Rattle.rule_table.specs.Pairs.{PairRow, is_id, shares_id}
 use Rattle.pairing_rules.specs.declared.entry.Entry.{Entry}
 use Rattle.pairing_rules.specs.Numbers.{Numbers, AreApart, number_of, is_number, is_named, where_given, where_missing}
 use Rattle.pairing_rules.specs.Slots.{seen, seen_at, shown, entry_cmp, at_place, low, has_key, has_key_at, has_given_key}

@@ -9,24 +9,24 @@ use Rattle.feed_values.specs.declared.cell_value.CellValue.TheVariants as value
 use Rattle.feed_values.specs.Schema.{Value}
 use Rattle.feed_values.specs.Messages.{entity, trip_update, vehicle_position}
 use Rattle.feed_values.specs.Cells.{entity_cell, text_cell}
-use Rattle.rule_core.specs.declared.rule.RuleId.{RuleId}
-use Rattle.rule_core.specs.declared.rule.RuleId.TheVariants.{E047, E052, W003}
-use Rattle.rule_core.specs.declared.ask.Ask.{Ask}
-use Rattle.rule_core.specs.declared.ask.Ask.TheVariants as ask
-use Rattle.rule_core.specs.declared.fact.Fact.{Fact}
-use Rattle.rule_core.specs.declared.key.EntityKey.{EntityKey}
-use Rattle.rule_core.specs.declared.kind.Kind.{Kind}
-use Rattle.rule_core.specs.declared.kind.Kind.TheVariants as kind
-use Rattle.rule_core.specs.declared.place.Place.{Place}
-use Rattle.rule_core.specs.declared.place.Place.TheVariants as place
-use Rattle.rule_core.specs.Asked.{text_in, with_both}
-use Rattle.rule_core.specs.Cited.{and_then, answered}
-use Rattle.rule_core.specs.CitedLaws.{both_same, value_is, found_along, found_ends}
-use Rattle.rule_core.specs.Answered.{pair_answer, yes, natural_cell}
-use Rattle.rule_core.specs.Judged.{found_at, found_all, update_of}
-use Rattle.rule_core.specs.Groups.{Each}
-use Rattle.rule_core.specs.Pairs.{PairRow, rows_of, update_rows, vehicle_rows, vehicle_of, trip_id_in, vehicle_id_in, has_trip, has_vehicle, has_pair, first_vehicle, first_key, any_row}
-use Rattle.rule_core.specs.PairAgree.{Agree, AgreeOnRow, AgreeOnTrip, AgreeOnVehicle}
+use Rattle.rule_table.specs.declared.rule.RuleId.{RuleId}
+use Rattle.rule_table.specs.declared.rule.RuleId.TheVariants.{E047, E052, W003}
+use Rattle.rule_table.specs.declared.ask.Ask.{Ask}
+use Rattle.rule_table.specs.declared.ask.Ask.TheVariants as ask
+use Rattle.rule_table.specs.declared.fact.Fact.{Fact}
+use Rattle.rule_table.specs.declared.key.EntityKey.{EntityKey}
+use Rattle.rule_table.specs.declared.kind.Kind.{Kind}
+use Rattle.rule_table.specs.declared.kind.Kind.TheVariants as kind
+use Rattle.rule_table.specs.declared.place.Place.{Place}
+use Rattle.rule_table.specs.declared.place.Place.TheVariants as place
+use Rattle.rule_table.specs.Asked.{text_in, with_both}
+use Rattle.rule_table.specs.Cited.{and_then, answered}
+use Rattle.rule_table.specs.CitedLaws.{both_same, value_is, found_along, found_ends}
+use Rattle.rule_table.specs.Answers.{pair_answer, yes, natural_cell}
+use Rattle.rule_table.specs.Judged.{found_at, found_all, update_of}
+use Rattle.rule_table.specs.Groups.{Each}
+use Rattle.rule_table.specs.Pairs.{PairRow, rows_of, update_rows, vehicle_rows, vehicle_of, trip_id_in, vehicle_id_in, has_trip, has_vehicle, has_pair, first_vehicle, first_key, any_row}
+use Rattle.rule_table.specs.PairAgree.{Agree, AgreeOnRow, AgreeOnTrip, AgreeOnVehicle}
 use Rattle.pairing_rules.specs.Pairing.{pairing_rules}
 
 -- ---- what an entity's cells ask

@@ -4,12 +4,12 @@ use Rattle.std.proofs.Common.{ap, ◌∙◌, sym}
 use Rattle.std.specs.List.{list_any, find}
 use Rattle.feed_values.specs.Schema.{Value}
 use Rattle.feed_values.specs.Messages.{entity}
-use Rattle.rule_core.specs.declared.key.EntityKey.{EntityKey}
-use Rattle.rule_core.specs.declared.kind.Kind.{Kind}
-use Rattle.rule_core.specs.declared.kind.Kind.TheVariants as kind
-use Rattle.rule_core.specs.Groups.{Each}
-use Rattle.rule_core.specs.Pairs.{PairRow, rows_of, is_of, is_id}
-use Rattle.rule_core.specs.PairAgree.{Agree, AgreeOnRow}
+use Rattle.rule_table.specs.declared.key.EntityKey.{EntityKey}
+use Rattle.rule_table.specs.declared.kind.Kind.{Kind}
+use Rattle.rule_table.specs.declared.kind.Kind.TheVariants as kind
+use Rattle.rule_table.specs.Groups.{Each}
+use Rattle.rule_table.specs.Pairs.{PairRow, rows_of, is_of, is_id}
+use Rattle.rule_table.specs.PairAgree.{Agree, AgreeOnRow}
 
 abbrev pub AreAlike : List PairRow → List PairRow → Type 0
 AreAlike u v = (k : Kind) → filter (is_of k) u ≡ filter (is_of k) v

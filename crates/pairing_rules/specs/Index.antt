@@ -2,8 +2,8 @@
 use Rattle.std.specs.Prelude.{◌≡◌, ℕ, Bool, true, ◌&&◌, List, Option, map, filter}
 use Rattle.std.specs.List.{AllByRecursion}
 use Rattle.std.specs.BTreeSet.{BTreeSet}
-use Rattle.rule_core.specs.declared.kind.Kind.{Kind}
-use Rattle.rule_core.specs.Pairs.{PairRow, is_of}
+use Rattle.rule_table.specs.declared.kind.Kind.{Kind}
+use Rattle.rule_table.specs.Pairs.{PairRow, is_of}
 use Rattle.pairing_rules.specs.declared.entry.Entry.{Entry}
 use Rattle.pairing_rules.specs.Numbers.{Numbers, number_of, is_number, is_named, where_given, where_missing}
 use Rattle.pairing_rules.specs.Slots.{seen_at, shown}

@@ -1,8 +1,9 @@
 -- The rules that ask for pairing rows.
-use Rattle.std.specs.Prelude.{List, [], ◌∷◌}
-use Rattle.rule_core.specs.declared.rule.RuleId.{RuleId}
-use Rattle.rule_core.specs.declared.rule.RuleId.TheVariants.{E047, E052, W003}
+use Rattle.std.specs.Prelude.{filter, List}
+use Rattle.rule_table.specs.declared.rule.RuleId.{RuleId}
+use Rattle.rule_table.specs.Asks.{asks, is_rows}
+use Rattle.rule_table.specs.Table.{all_rules}
 
--- all three of them, in the order of their texts
+-- in the order of their texts
 abbrev pub pairing_rules : List RuleId
-pairing_rules = E047 ∷ E052 ∷ W003 ∷ []
+pairing_rules = filter (asks is_rows) all_rules

@@ -6,10 +6,10 @@ use Rattle.std.specs.Ordering.{nat_cmp, ordering_then}
 use Rattle.std.specs.Option.{option_cmp}
 use Rattle.std.specs.Cmp.Lexicographic.{slice_cmp}
 use Rattle.std.specs.BTreeSet.{insert_key}
-use Rattle.rule_core.specs.declared.kind.Kind.{Kind}
-use Rattle.rule_core.specs.Kinds.{kind_cmp}
-use Rattle.rule_core.specs.Order.{key_cmp}
-use Rattle.rule_core.specs.Pairs as pairs
+use Rattle.rule_table.specs.declared.kind.Kind.{Kind}
+use Rattle.rule_table.specs.Kinds.{kind_cmp}
+use Rattle.rule_table.specs.Order.{key_cmp}
+use Rattle.rule_table.specs.Pairs as pairs
 use Rattle.pairing_rules.specs.declared.row.PairRow.{PairRow}
 use Rattle.pairing_rules.specs.declared.held.Held.{Held}
 

@@ -6,9 +6,9 @@ use Rattle.std.specs.Option.{option_cmp}
 use Rattle.std.specs.List.{AllByRecursion}
 use Rattle.std.specs.declared.alloc.Global.{Global}
 use Rattle.std.specs.declared.rc.Rc.{Rc}
-use Rattle.rule_core.specs.declared.kind.Kind.{Kind}
-use Rattle.rule_core.specs.Kinds.{kind_cmp, same_kind}
-use Rattle.rule_core.specs.Pairs as pairs
+use Rattle.rule_table.specs.declared.kind.Kind.{Kind}
+use Rattle.rule_table.specs.Kinds.{kind_cmp, same_kind}
+use Rattle.rule_table.specs.Pairs as pairs
 use Rattle.pairing_rules.specs.declared.held.Held.{Held}
 use Rattle.pairing_rules.specs.declared.seat.Seat.{Seat}
 use Rattle.pairing_rules.specs.Numbers.{Numbers, is_number, numbered}

@@ -5,12 +5,12 @@ use Rattle.std.specs.Ordering.{nat_cmp, ordering_then}
 use Rattle.std.specs.Option.{option_cmp}
 use Rattle.std.specs.BTreeSet.{BTreeSet}
 use Rattle.std.specs.List.{list_any}
-use Rattle.rule_core.specs.declared.kind.Kind.{Kind}
-use Rattle.rule_core.specs.declared.key.EntityKey.{EntityKey}
-use Rattle.rule_core.specs.declared.kind.Kind.TheVariants as kind
-use Rattle.rule_core.specs.Order.{key_cmp, same_key}
-use Rattle.rule_core.specs.Kinds.{kind_cmp, same_kind}
-use Rattle.rule_core.specs.Pairs.{PairRow}
+use Rattle.rule_table.specs.declared.kind.Kind.{Kind}
+use Rattle.rule_table.specs.declared.key.EntityKey.{EntityKey}
+use Rattle.rule_table.specs.declared.kind.Kind.TheVariants as kind
+use Rattle.rule_table.specs.Order.{key_cmp, same_key}
+use Rattle.rule_table.specs.Kinds.{kind_cmp, same_kind}
+use Rattle.rule_table.specs.Pairs.{PairRow}
 use Rattle.pairing_rules.specs.declared.entry.Entry.{Entry}
 use Rattle.pairing_rules.specs.declared.held.Held.{Held}
 use Rattle.pairing_rules.specs.Rows.{held_row, id_cmp, row_cmp}

@@ -3,12 +3,12 @@ ghost use Rattle.std.specs.Prelude.{◌≡◌, option_copied};
 ghost use Rattle.std.specs.Option.{option_map};
 ghost use Rattle.feed_values.specs.Cells.{cell_value};
 ghost use Rattle.feed_values.specs.Views.{entity_value};
-ghost use Rattle.rule_core.specs.Asked.{ask_value};
-ghost use Rattle.rule_core.specs.Answered.{pair_answer, rows_answer};
-ghost use Rattle.rule_core.specs.Pairs.{first_key};
+ghost use Rattle.rule_table.specs.Asked.{ask_value};
+ghost use Rattle.rule_table.specs.Answers.{pair_answer, rows_answer};
+ghost use Rattle.rule_table.specs.Pairs.{first_key};
 
 use feed_values::{CellRef, Entity, field_at};
-use rule_core::{Answers, AskRef, EntityKey, PairView, number_cell, text_cell, truth_cell};
+use rule_table::{Answers, AskRef, EntityKey, PairView, number_cell, text_cell, truth_cell};
 
 fn id_of<'a, P: PairView>(view: &'a P, feed: u8, vehicle: &str) -> Option<&'a str>
     ensures { option_copied result ≡ option_map (λ key. key.id) (first_key (P.rows view.now) feed vehicle.now) }

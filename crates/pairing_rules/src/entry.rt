@@ -1,13 +1,13 @@
 //! Places of rows in an order by number.
 ghost use Rattle.std.specs.Prelude.{◌≡◌, ◌==◌, ◌&&◌, ℕ, Some, option_copied};
-ghost use Rattle.rule_core.specs.declared.kind.Kind.{Kind as Of};
-ghost use Rattle.rule_core.specs.Kinds.{same_kind};
+ghost use Rattle.rule_table.specs.declared.kind.Kind.{Kind as Of};
+ghost use Rattle.rule_table.specs.Kinds.{same_kind};
 ghost use Rattle.pairing_rules.specs.Rows.{held_row};
 ghost use Rattle.pairing_rules.specs.Slots.{at_place, key_in, low, seen, shown, vehicle_in};
 
 use crate::held::Held;
-use crate::row::given;
-use rule_core::{EntityKey, Kind};
+use feed_values::given_text;
+use rule_table::{EntityKey, Kind};
 use std::rc::Rc;
 
 /// A row at a place, which is a number and a kind. Those of one place stand in the order of their rows, after what has none.
@@ -57,7 +57,7 @@ impl Entry {
         ensures { option_copied result ≡ vehicle_in (seen self.now) }
     {
         match &self.row {
-            Some(row) => given(&row.vehicle),
+            Some(row) => given_text(&row.vehicle),
             None => None,
         }
     }

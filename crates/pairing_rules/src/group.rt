@@ -1,21 +1,21 @@
 //! The group.
 ghost use Rattle.std.specs.Prelude.{◌≡◌, refl};
-ghost use Rattle.rule_core.specs.Answered.{pair_answer};
-ghost use Rattle.rule_core.specs.Judged.{found_all};
-ghost use Rattle.rule_core.specs.GroupLaws.{all_own, all_once};
+ghost use Rattle.rule_table.specs.Answers.{pair_answer};
+ghost use Rattle.rule_table.specs.Judged.{found_all};
+ghost use Rattle.rule_table.specs.GroupLaws.{all_own, all_once};
 ghost use Rattle.pairing_rules.specs.Pairing.{pairing_rules};
 ghost use Rattle.pairing_rules.specs.Agreeing.{rules_agree, rules_none};
 
 use crate::answers::PairAnswers;
 use feed_values::Entity;
 use rt_outside::Steps;
-use rule_core::{EntityKey, FindingList, PairRule, PairView, RuleId, Rules, judge_rules};
+use rule_table::{EntityKey, FindingList, PairRule, PairView, RuleId, Rules, judge_rules};
 use std::alloc::{AllocError, Global};
 use std::sync::ledger::Ledger;
 
 const RULES: &[RuleId] = &[RuleId::E047, RuleId::E052, RuleId::W003];
 
-/// The three rules on trip updates and vehicle positions together, in the order of their texts.
+/// The rules on trip updates and vehicle positions together, in the order of their texts.
 #[derive(Drop)]
 pub struct PairGroup {
     rules: &'static [RuleId],

@@ -4,7 +4,7 @@ ghost use Rattle.pairing_rules.specs.Rows.{pair_row, held_row};
 
 use crate::row::PairRow;
 use feed_values::Text;
-use rule_core::EntityKey;
+use rule_table::EntityKey;
 
 /// The texts of a row. Its kind stands where it is held.
 #[derive(PartialEq, Eq, PartialOrd, Ord, Drop)]

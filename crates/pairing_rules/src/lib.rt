@@ -1,4 +1,4 @@
-//! The rules on trip updates and vehicle positions together, as a group: three rows of the table of `rule_core`, which ask for
+//! The rules on trip updates and vehicle positions together, as a group: the rows of the table of `rule_table`, which ask for
 //! the pairing rows of all entities. Beside it these rows as a set, which answers what the rules ask.
 //!
 //! `group` is the group, which `answers` answers of an entity and a list of rows (`row`). `pair_index` is the set: `names` gives texts

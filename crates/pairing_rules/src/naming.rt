@@ -1,14 +1,12 @@
 //! The keys of rows by number.
-ghost use Rattle.std.specs.Prelude.{◌≡◌, ◌<◌, ◌+◌, ◌^◌, ◌||◌, OnOk, IfOk, IfSome};
+ghost use Rattle.std.specs.Prelude.{◌≡◌, ◌<◌, ◌+◌, ◌^◌, ◌||◌, OnOk, IfSome};
 ghost use Rattle.std.specs.BTreeSet.{contains};
-ghost use Rattle.std.specs.List.Sorted.{IsStrictlySortedBy};
-ghost use Rattle.rule_core.specs.Order.{key_cmp};
-ghost use Rattle.rule_core.specs.declared.key.EntityKey.{EntityKey as Key};
+ghost use Rattle.rule_table.specs.Order.{key_cmp};
+ghost use Rattle.rule_table.specs.declared.key.EntityKey.{EntityKey as Key};
 ghost use Rattle.pairing_rules.specs.Slots.{seen, has_key, has_key_at, has_given_key};
 
 use crate::entry::Entry;
-use feed_values::Items;
-use rule_core::{EntityKey, Kind};
+use rule_table::{EntityKey, Kind};
 use std::alloc::{AllocError, Global};
 use std::collections::BTreeSet;
 
@@ -57,17 +55,4 @@ pub(crate) fn put_given_keys(
         Some(number) => put_number(alloc, keys, entries, number),
         None => Ok(()),
     }
-}
-
-/// The keys of a set, in order.
-pub(crate) fn in_order(
-    alloc: Global,
-    keys: BTreeSet<EntityKey>,
-) -> Result<Items<EntityKey>, AllocError>
-    ensures all { IfOk result (λ items. items ≡ keys.keys) }
-    ensures ordered { IfOk result (λ items. IsStrictlySortedBy key_cmp items) }
-{
-    let _count = keys.len();
-    let items = keys.into_iter().collect(alloc)?;
-    Ok(Items::from_vec(items))
 }

@@ -5,22 +5,22 @@ ghost use Rattle.std.specs.BTreeSet.{insert_key};
 ghost use Rattle.std.specs.BTreeMap.{is_at};
 ghost use Rattle.std.specs.Set.{remove_key};
 ghost use Rattle.std.specs.List.Sorted.{IsStrictlySortedBy};
-ghost use Rattle.rule_core.specs.Order.{key_cmp, same_key};
-ghost use Rattle.rule_core.specs.declared.key.EntityKey.{EntityKey as Key};
-ghost use Rattle.rule_core.specs.Pairs as pairs;
+ghost use Rattle.rule_table.specs.Order.{key_cmp, same_key};
+ghost use Rattle.rule_table.specs.declared.key.EntityKey.{EntityKey as Key};
+ghost use Rattle.rule_table.specs.Pairs as pairs;
 ghost use Rattle.pairing_rules.specs.Rows.{pair_row, row_cmp};
 
 use crate::entry::Entry;
 use crate::held::Held;
 use crate::names::Names;
-use crate::naming::{in_order, put_given_keys};
-use crate::row::{PairRow, given};
+use crate::naming::put_given_keys;
+use crate::row::PairRow;
 use crate::rows::{any_of_kind, any_of_pair};
 use crate::seat::Seat;
 use crate::slots::{first_at, first_of_feed, has_at, has_either, put_given};
 use crate::taking::take_entries;
-use feed_values::Items;
-use rule_core::{EntityKey, Kind, PairView};
+use feed_values::{Items, given_text};
+use rule_table::{EntityKey, Kind, PairView, keys_in_order};
 use std::alloc::{AllocError, Global};
 use std::collections::{BTreeMap, BTreeSet};
 use std::marker::Model;
@@ -46,7 +46,7 @@ pub struct PairIndex {
 impl Model for PairIndex {
     ghost use Rattle.std.specs.Prelude.{List};
     ghost use Rattle.std.specs.HashMap.{get_by_text};
-    ghost use Rattle.rule_core.specs.Pairs as pairs;
+    ghost use Rattle.rule_table.specs.Pairs as pairs;
     ghost use Rattle.pairing_rules.specs.Seats.{AreSeated, rows_of};
     ghost use Rattle.pairing_rules.specs.Index.{AreIndexed};
 
@@ -83,8 +83,10 @@ impl PairIndex {
     {
         let mut index = self;
         let id = index.ids.give(index.alloc, row.id.as_str())?;
-        let trip = index.trips.give_given(index.alloc, given(&row.trip))?;
-        let vehicle = index.vehicles.give_given(index.alloc, given(&row.vehicle))?;
+        let trip = index.trips.give_given(index.alloc, given_text(&row.trip))?;
+        let vehicle = index
+            .vehicles
+            .give_given(index.alloc, given_text(&row.vehicle))?;
         let seat = Seat::new(&row, id, trip, vehicle);
         let held = Rc::new(index.alloc, Held::new(row))?;
         put_given(&mut index.paired, seat.paired(), seat.kind, &held)?;
@@ -121,13 +123,13 @@ impl PairIndex {
         ensures ordered { IfOk result (λ keys. IsStrictlySortedBy key_cmp keys) }
         ensures named { IfOk result (λ keys. (key : Key) → list_any (same_key key) keys ≡ list_any (λ r. pairs.shares (pair_row row.now) r && same_key key r.key) self.now) }
     {
-        let trip = self.trips.number_given(given(&row.trip));
-        let vehicle = self.vehicles.number_given(given(&row.vehicle));
+        let trip = self.trips.number_given(given_text(&row.trip));
+        let vehicle = self.vehicles.number_given(given_text(&row.vehicle));
         let mut keys = BTreeSet::new(alloc);
         put_given_keys(alloc, &mut keys, &self.paired, trip)?;
         put_given_keys(alloc, &mut keys, &self.unpaired, trip)?;
         put_given_keys(alloc, &mut keys, &self.by_vehicle, vehicle)?;
-        let found = in_order(alloc, keys)?;
+        let found = keys_in_order(alloc, keys)?;
         Ok(found)
     }
 }

@@ -1,8 +1,6 @@
 //! Pairing rows.
-ghost use Rattle.std.specs.Prelude.{◌≡◌, option_copied};
-
 use feed_values::Text;
-use rule_core::Kind;
+use rule_table::Kind;
 
 /// The ids that a trip update or a vehicle position of an entity gives. Rows are ordered by kind, then feed, id and occurrence.
 #[derive(Debug, PartialEq, Eq, PartialOrd, Ord, Drop)]
@@ -16,14 +14,4 @@ pub struct PairRow {
     pub occurrence: u32,
     pub trip: Option<Text>,
     pub vehicle: Option<Text>,
-}
-
-/// The text that is given.
-pub(crate) fn given(text: &Option<Text>) -> Option<&str>
-    ensures { option_copied result ≡ text.now }
-{
-    match text {
-        Some(text) => Some(text.as_str()),
-        None => None,
-    }
 }

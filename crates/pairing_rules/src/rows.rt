@@ -4,14 +4,14 @@ ghost use Rattle.std.specs.List.{find, list_any};
 ghost use Rattle.std.specs.List.Sorted.{IsStrictlySortedBy};
 ghost use Rattle.std.specs.Ordering.{is_le};
 ghost use Rattle.std.specs.BTreeMap.{keys};
-ghost use Rattle.rule_core.specs.Kinds.{same_kind};
-ghost use Rattle.rule_core.specs.declared.kind.Kind.TheVariants.{TripUpdate, Vehicle};
+ghost use Rattle.rule_table.specs.Kinds.{same_kind};
+ghost use Rattle.rule_table.specs.declared.kind.Kind.TheVariants.{TripUpdate, Vehicle};
 ghost use Rattle.pairing_rules.specs.Numbers.{is_number};
 ghost use Rattle.pairing_rules.specs.Seats.{seat_cmp, is_pair};
 
 use crate::held::Held;
 use crate::seat::Seat;
-use rule_core::Kind;
+use rule_table::Kind;
 use std::collections::BTreeMap;
 use std::rc::Rc;
 

@@ -6,8 +6,9 @@ ghost use Rattle.pairing_rules.specs.Rows.{pair_row};
 ghost use Rattle.pairing_rules.specs.Seats.{seat_in, seat_of, low_seat};
 
 use crate::names::Names;
-use crate::row::{PairRow, given};
-use rule_core::Kind;
+use crate::row::PairRow;
+use feed_values::given_text;
+use rule_table::Kind;
 
 /// A row by number: no two rows have one seat. Those of a kind, and of a kind, a trip and a vehicle, stand together.
 #[derive(Clone, Copy, PartialEq, Eq, PartialOrd, Ord)]
@@ -53,8 +54,8 @@ impl Seat {
         ensures { result ≡ seat_in (get_by_text ids.now.numbers) (get_by_text trips.now.numbers) (get_by_text vehicles.now.numbers) (pair_row row.now) }
     {
         let id = ids.number(row.id.as_str())?;
-        let trip = number_in(trips, given(&row.trip))?;
-        let vehicle = number_in(vehicles, given(&row.vehicle))?;
+        let trip = number_in(trips, given_text(&row.trip))?;
+        let vehicle = number_in(vehicles, given_text(&row.vehicle))?;
         Some(Seat::new(row, id, trip, vehicle))
     }
 

@@ -6,15 +6,15 @@ ghost use Rattle.std.specs.BTreeSet.{insert_key};
 ghost use Rattle.std.specs.BTreeMap.{is_at};
 ghost use Rattle.std.specs.Set.{remove_key};
 ghost use Rattle.std.specs.Ordering.{is_le};
-ghost use Rattle.rule_core.specs.declared.kind.Kind.{Kind as Of};
-ghost use Rattle.rule_core.specs.Kinds.{same_kind};
+ghost use Rattle.rule_table.specs.declared.kind.Kind.{Kind as Of};
+ghost use Rattle.rule_table.specs.Kinds.{same_kind};
 ghost use Rattle.pairing_rules.specs.Numbers.{is_number};
 ghost use Rattle.pairing_rules.specs.Rows.{held_row};
 ghost use Rattle.pairing_rules.specs.Slots.{seen, seen_at, seen_cmp, shown, entry_cmp, at_place};
 
 use crate::entry::Entry;
 use crate::held::Held;
-use rule_core::Kind;
+use rule_table::Kind;
 use std::alloc::AllocError;
 use std::collections::BTreeSet;
 use std::rc::Rc;

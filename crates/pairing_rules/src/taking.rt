@@ -2,8 +2,8 @@
 ghost use Rattle.std.specs.Prelude.{◌≡◌, ◌&&◌, ℕ, cond};
 ghost use Rattle.std.specs.BTreeMap.{is_at};
 ghost use Rattle.std.specs.Set.{remove_key};
-ghost use Rattle.rule_core.specs.declared.kind.Kind.{Kind as Of};
-ghost use Rattle.rule_core.specs.Kinds.{same_kind};
+ghost use Rattle.rule_table.specs.declared.kind.Kind.{Kind as Of};
+ghost use Rattle.rule_table.specs.Kinds.{same_kind};
 ghost use Rattle.pairing_rules.specs.Numbers.{is_number, where_given, where_missing};
 ghost use Rattle.pairing_rules.specs.Rows.{held_row};
 ghost use Rattle.pairing_rules.specs.Slots.{seen_at, seen_cmp, shown};

@@ -7,8 +7,8 @@ use Rattle.rt_day.specs.Date.{IsYearInRange}
 use Rattle.feed_values.specs.declared.trip_descriptor.TripDescriptor.{TripDescriptor}
 use Rattle.timetable.specs.Maps.{Text}
 use Rattle.timetable.specs.Timetables.{Tables}
-use Rattle.timetable.specs.declared.grouped.Only.{Only}
-use Rattle.timetable.specs.declared.trip.Trip.{Trip}
+use Rattle.timetable.specs.declared.Only.{Only}
+use Rattle.timetable.specs.declared.Trip.{Trip}
 use Rattle.trip_calendar.specs.declared.candidate.Candidate.{Candidate}
 use Rattle.trip_calendar.specs.ServiceDays.{IsCandidate, IsDayFrom, IsDayOfRow, IsDayOfTrip, IsNearest, IsNearestAround, IsServiceDay, nearer}
 use Rattle.trip_calendar.specs.Trips.{first_run}

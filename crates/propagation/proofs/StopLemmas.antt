@@ -8,7 +8,7 @@ use Rattle.std.specs.FinMap.{entries, entries_sorted, is_sorted}
 use Rattle.std.specs.Ordering.{nat_cmp}
 use Rattle.timetable.specs.Numbers.{HasNumber}
 use Rattle.timetable.specs.Times.{AreRising, BySequence, IsGapFor, StandsAt, keyed, sequence_at}
-use Rattle.timetable.specs.declared.stop_time.StopTime.{StopTime}
+use Rattle.timetable.specs.declared.StopTime.{StopTime}
 use Rattle.timetable.proofs.SequenceLemmas.{rises}
 use Rattle.propagation.specs.Stops.{AreReached, IsFirstFrom, Reaches, Stop, passes, with_ids}
 

@@ -6,7 +6,7 @@ use Rattle.feed_values.specs.declared.stop_time_update.StopTimeUpdate.{StopTimeU
 use Rattle.timetable.specs.Lookups.{tables_in}
 use Rattle.timetable.specs.Maps.{Text}
 use Rattle.timetable.specs.Timetables.{Tables, trip_times}
-use Rattle.timetable.specs.declared.stop_time.StopTime.{StopTime}
+use Rattle.timetable.specs.declared.StopTime.{StopTime}
 use Rattle.propagation.specs.declared.stops.Stops.{Stops}
 use Rattle.propagation.specs.declared.visit.Visit.{Visit}
 

@@ -8,18 +8,8 @@ use crate::own::stated_time;
 use crate::prediction_row::PredictionRow;
 use crate::row_state::RowState;
 use crate::source::Source;
-use feed_values::{StopTimeUpdate, Text};
+use feed_values::{StopTimeUpdate, copied_text};
 use std::alloc::{AllocError, Global};
-
-/// A text that is made again where it is given.
-fn copied_text(alloc: Global, text: &Option<Text>) -> Result<Option<Text>, AllocError>
-    ensures { IfOk result (λ copy. copy ≡ text.now) }
-{
-    match text {
-        Some(text) => Ok(Some(text.clone(alloc)?)),
-        None => Ok(None),
-    }
-}
 
 /// The row of an unmatched update.
 fn unmatched_row(

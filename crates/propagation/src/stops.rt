@@ -1,15 +1,15 @@
 //! The stops of a trip.
 ghost use Rattle.std.specs.HashMap.{get_by};
-ghost use Rattle.std.specs.Prelude.{◌≡◌, ◌<◌, ◌^◌, ◌==◌, All, IfOk, IfErr, IfSome, Some, length, slice_get, bytes_eq};
+ghost use Rattle.std.specs.Prelude.{◌≡◌, ◌<◌, ◌^◌, ◌==◌, All, IfOk, IfSome, Some, length, slice_get, bytes_eq};
 ghost use Rattle.timetable.specs.Lookups.{IsStop, IsTrip, IsTripOf, tables_in};
 ghost use Rattle.timetable.specs.Maps.{Text};
-ghost use Rattle.timetable.specs.Times.{AreRising, IsGapFor, StandsAt};
+ghost use Rattle.timetable.specs.Times.{AreRising};
 
 use crate::visit::Visit;
 use feed_values::StopTimeUpdate;
 use std::alloc::{AllocError, Global};
 use std::collections::HashMap;
-use timetable::{StopTime, Timetable, TripNo};
+use timetable::{StopTime, Timetable, TripNo, place_of_sequence};
 
 /// The stops of a trip, by rising `stop_sequence`. Their ids are those of the timetable.
 #[derive(Drop)]
@@ -19,15 +19,6 @@ pub(crate) struct Stops<'a> {
     ghost have_ids: { All (λ time. IsStop table.now time.stop) times.now },
     ghost rising: { AreRising times.now },
     ghost few: { length times.now < 2 ^ 63 },
-}
-
-// Where a sequence stands, or where it would go.
-fn search(times: &[StopTime], sequence: u32) -> Result<usize, usize>
-    requires { AreRising times.now }
-    ensures found { IfOk result (StandsAt times.now sequence) }
-    ensures absent { IfErr result (IsGapFor times.now sequence) }
-{
-    times.binary_search_by_key(&sequence, |time| time.sequence)
 }
 
 impl<'a> Stops<'a> {
@@ -95,7 +86,7 @@ impl<'a> Stops<'a> {
     fn with_sequence(&self, sequence: u32, from: usize) -> Option<usize>
         ensures { IsFirstFrom (λ stop. stop.sequence == sequence) (stops_in self.now) from result }
     {
-        match search(self.times, sequence) {
+        match place_of_sequence(self.times, sequence) {
             Ok(place) => if place >= from { Some(place) } else { None },
             Err(_) => None,
         }

@@ -26,20 +26,11 @@ pub(crate) struct Walk {
     pub rows: Vec<PredictionRow>,
 }
 
-/// A text that is made again.
-fn text_of(alloc: Global, text: &str) -> Result<Text, AllocError>
-    ensures { IfOk result (λ copy. copy ≡ text.now) }
-{
-    let mut copy = Text::new(alloc);
-    copy.push(text)?;
-    Ok(copy)
-}
-
 /// The row of an event.
 fn row_by(alloc: Global, event: &Event<'_>, outcome: Outcome) -> Result<PredictionRow, AllocError>
     ensures { IfOk result (λ row. row ≡ row_by (event_in event.now) outcome) }
 {
-    let stop = text_of(alloc, event.stop)?;
+    let stop = Text::of(alloc, event.stop)?;
     Ok(PredictionRow {
         stop_sequence: Some(event.sequence),
         stop_id: Some(stop),

@@ -3,7 +3,7 @@ use Rattle.std.specs.Prelude.{◌≡◌, ◌++◌, ◌||◌, ℕ, Bool, true, fa
 use Rattle.std.specs.List.{flat_map}
 use Rattle.std.proofs.Common.{sym, ap, ◌∙◌, append_assoc}
 use Rattle.std.proofs.lemmas.Grind.{flat_map-append}
-use Rattle.rule_core.specs.Found.{Found}
+use Rattle.rule_table.specs.Found.{Found}
 use Rattle.rt_report.proofs.Joined.{or_apart}
 use Rattle.rt_report.specs.FindingLines.{finding_text, has_error, is_error}
 

@@ -9,7 +9,7 @@ use Rattle.serde_json.specs.Data.{Data, string}
 use Rattle.serde_json.specs.View.{items_of}
 use Rattle.serde_json.specs.Written.{items_outline}
 use Rattle.serde_json.proofs.Texts.{print-outline}
-use Rattle.rule_core.specs.declared.fact.Fact.{Fact}
+use Rattle.rule_table.specs.declared.fact.Fact.{Fact}
 use Rattle.snapshot_lines.specs.Lines.{line_of}
 use Rattle.rt_report.specs.Findings.{fact_data}
 use Rattle.rt_report.specs.Tokens.{Adds, fact_tokens, tokens_of}

@@ -2,11 +2,11 @@
 use Rattle.std.proofs.Common.{◌≡◌, ◌<◌, ℕ, Bool, true, false, ◌&&◌, List, [], ◌∷◌, ◌++◌, length, get_or, refl, zero, suc, arith}
 use Rattle.std.specs.List.{list_all}
 use Rattle.feed_values.specs.declared.cell_value.CellValue.{CellValue}
-use Rattle.rule_core.specs.declared.fact.Fact.{Fact}
-use Rattle.rule_core.specs.declared.place.Place.{Place}
-use Rattle.rule_core.specs.declared.row.Cite.{Cite}
-use Rattle.rule_core.specs.Asked.{in_range}
-use Rattle.rule_core.specs.Broken.{IsFormed}
+use Rattle.rule_table.specs.declared.fact.Fact.{Fact}
+use Rattle.rule_table.specs.declared.place.Place.{Place}
+use Rattle.rule_table.specs.declared.row.Cite.{Cite}
+use Rattle.rule_table.specs.Asked.{in_range}
+use Rattle.rule_table.specs.Broken.{IsFormed}
 
 pub formed_in_range : (at : Place) (vs : List CellValue) (cs : List Cite) (fs : List Fact) → IsFormed at vs cs fs → list_all (λ f. in_range f.value) fs ≡ true
 formed_in_range at vs [] [] h = refl

@@ -7,16 +7,16 @@ use Rattle.serde_json.specs.View.{items_of}
 use Rattle.feed_values.specs.declared.cell_value.CellValue.{CellValue}
 use Rattle.feed_values.specs.declared.cell_value.CellValue.TheVariants as value
 use Rattle.feed_values.specs.Cells.{path_text}
-use Rattle.rule_core.specs.declared.ask.Ask.{Ask}
-use Rattle.rule_core.specs.declared.ask.Ask.TheVariants as ask
-use Rattle.rule_core.specs.declared.kind.Kind.{Kind}
-use Rattle.rule_core.specs.declared.kind.Kind.TheVariants as kind
-use Rattle.rule_core.specs.declared.fact.Fact.{Fact}
-use Rattle.rule_core.specs.declared.place.Place.{Place}
-use Rattle.rule_core.specs.declared.place.Place.TheVariants as place
-use Rattle.rule_core.specs.declared.rule.RuleId.{RuleId}
-use Rattle.rule_core.specs.Found.{Found}
-use Rattle.rule_core.specs.Rules.{rule_name, level}
+use Rattle.rule_table.specs.declared.ask.Ask.{Ask}
+use Rattle.rule_table.specs.declared.ask.Ask.TheVariants as ask
+use Rattle.rule_table.specs.declared.kind.Kind.{Kind}
+use Rattle.rule_table.specs.declared.kind.Kind.TheVariants as kind
+use Rattle.rule_table.specs.declared.fact.Fact.{Fact}
+use Rattle.rule_table.specs.declared.place.Place.{Place}
+use Rattle.rule_table.specs.declared.place.Place.TheVariants as place
+use Rattle.rule_table.specs.declared.rule.RuleId.{RuleId}
+use Rattle.rule_table.specs.Found.{Found}
+use Rattle.rule_table.specs.Rules.{rule_name, level}
 use Rattle.snapshot_lines.specs.Lines.{count}
 use Rattle.rt_report.specs.declared.finding.LineKind.{LineKind}
 use Rattle.rt_report.specs.declared.finding.LineKind.TheVariants as line

@@ -5,7 +5,7 @@ use Rattle.json.specs.Tree.{json_tokens}
 use Rattle.json.specs.Written.{Written}
 use Rattle.serde_json.specs.Data.{Data, string, object, member, no_members}
 use Rattle.serde_json.specs.Written.{outline}
-use Rattle.rule_core.specs.declared.fact.Fact.{Fact}
+use Rattle.rule_table.specs.declared.fact.Fact.{Fact}
 use Rattle.snapshot_lines.specs.Lines.{count}
 use Rattle.rt_report.specs.Findings.{fact_data}
 

@@ -8,7 +8,7 @@ ghost use Rattle.rt_report.specs.Tokens.{Adds};
 use crate::tokens::push_item;
 use feed_values::{Path, Slot};
 use json::Writer;
-use rule_core::{Ask, Kind};
+use rule_table::{Ask, Kind};
 use std::alloc::{AllocError, Global};
 
 fn kind_name(kind: Kind) -> &'static str

@@ -2,12 +2,12 @@
 ghost use Rattle.std.specs.Prelude.{◌≡◌, IfOk};
 ghost use Rattle.feed_values.specs.Cells.{path_text};
 ghost use Rattle.serde_json.specs.View.{view};
-ghost use Rattle.rule_core.specs.Rules.{rule_name};
+ghost use Rattle.rule_table.specs.Rules.{rule_name};
 ghost use Rattle.snapshot_lines.specs.Lines.{line_of};
 ghost use Rattle.rt_report.specs.Findings.{closed_data, head_closed, entity_closed};
 
 use feed_values::{Path, Slot};
-use rule_core::{EntityKey, Place, RuleId};
+use rule_table::{EntityKey, Place, RuleId};
 use serde_json::{Value, json};
 use snapshot_lines::line_of;
 use std::alloc::{AllocError, Global};

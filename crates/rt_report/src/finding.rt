@@ -4,17 +4,17 @@ ghost use Rattle.std.specs.List.{list_all};
 ghost use Rattle.json.specs.Token as token;
 ghost use Rattle.serde_json.specs.Data.{number};
 ghost use Rattle.serde_json.specs.Find.{of_integer};
-ghost use Rattle.rule_core.specs.Asked.{in_range};
+ghost use Rattle.rule_table.specs.Asked.{in_range};
 ghost use Rattle.snapshot_lines.specs.Lines.{line_of};
 ghost use Rattle.rt_report.specs.Findings.{line_name, cell_data, fact_data, facts_data, entity_finding, finding_data, finding_at};
-ghost use Rattle.rule_core.specs.declared.place.Place.TheVariants as place;
+ghost use Rattle.rule_table.specs.declared.place.Place.TheVariants as place;
 ghost use Rattle.rt_report.specs.Tokens.{Adds, tokens_of, fact_tokens, head_finding};
 
 use crate::asked::{ask_name, push_keys};
 use crate::tokens::{push_count, push_text};
 use feed_values::{CellValue, Path, Slot};
 use json::Writer;
-use rule_core::{EntityKey, Fact, Finding, Place};
+use rule_table::{EntityKey, Fact, Finding, Place};
 use std::alloc::{AllocError, Global};
 
 // How many bytes a line is given at first: what most lines need.

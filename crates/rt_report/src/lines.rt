@@ -1,12 +1,12 @@
 //! The lines of findings, one after the other.
 ghost use Rattle.std.specs.Prelude.{◌≡◌, ◌++◌, ◌||◌, OnOk};
 ghost use Rattle.std.specs.List.{flat_map, list_any};
-ghost use Rattle.rule_core.specs.Rules.{level};
+ghost use Rattle.rule_table.specs.Rules.{level};
 ghost use Rattle.rt_report.specs.declared.finding.LineKind.TheVariants as line;
 ghost use Rattle.rt_report.specs.FindingLines.{AddsText, AddsLines, standing_text, finding_text, has_error, is_error};
 
 use crate::finding::{LineKind, finding_line};
-use rule_core::{Finding, RuleId};
+use rule_table::{Finding, RuleId};
 use std::alloc::{AllocError, Global};
 
 /// Lines, and whether one of their findings is of an error.

@@ -2,7 +2,7 @@
 
 use crate::paths::path_of;
 use cases::word;
-use rule_core::{AskRef, Kind};
+use rule_table::{AskRef, Kind};
 use std::alloc::{AllocError, Global};
 
 // An ask of the feeds' cells.

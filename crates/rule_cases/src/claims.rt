@@ -6,7 +6,7 @@ use crate::rules::rule_of;
 use cases::word;
 use evidence::breaks;
 use feed_values::{Items, Path, Text};
-use rule_core::{EntityKey, Fact, Finding, Place, RuleId};
+use rule_table::{EntityKey, Fact, Finding, Place, RuleId};
 use std::alloc::{AllocError, Global};
 
 /// Facts of which a rule at a place is asked.

@@ -3,7 +3,7 @@
 use crate::asks::ask_of;
 use cases::word_list;
 use feed_values::{CellRef, Items};
-use rule_core::{Fact, FactRef};
+use rule_table::{Fact, FactRef};
 use std::alloc::{AllocError, Global};
 
 // A text without the quotes around it.

@@ -4,7 +4,7 @@ use crate::claims::{Claim, claim_of};
 use cases::{number, say, say_whether, word};
 use feed_values::Items;
 use rt_report::{LineKind, finding_line};
-use rule_core::{Fact, Finding, Place};
+use rule_table::{Fact, Finding, Place};
 use std::alloc::{AllocError, Global};
 
 // The facts one by one.

@@ -3,7 +3,7 @@
 use crate::findings::{finding_of, say_finding};
 use cases::{say, size, word};
 use rt_report::LineKind;
-use rule_core::FindingList;
+use rule_table::FindingList;
 use std::alloc::{AllocError, Global};
 use std::mem;
 

@@ -1,6 +1,6 @@
 //! Rules by their texts.
 
-use rule_core::RuleId;
+use rule_table::RuleId;
 
 const RULES: [RuleId; 52] = [
     RuleId::E001,

@@ -1,12 +1,13 @@
 //! The snapshot in a file.
-ghost use Rattle.std.specs.Prelude.{◌≡◌, ◌≤◌, Err, IfSome, IfOk, IfErr, IsErrOf};
+ghost use Rattle.std.specs.Prelude.{◌≡◌, ◌≤◌, ℕ, List, Err, IfSome, IfOk, IfErr, IsErrOf};
 ghost use Rattle.std.specs.FinMap.{get};
 ghost use Rattle.rt_outside.specs.Causes.{Rose};
 ghost use Rattle.rt_outside.specs.Store.{contents_told, left};
 ghost use Rattle.feed_codec.specs.Refusal.{refusal, refused};
+ghost use Rattle.feed_stream.specs.Came.{Came};
 ghost use Rattle.run_base.specs.Found.{found_value, snapshot_in, decoded};
 ghost use Rattle.run_base.specs.Found.{kept_bytes};
-ghost use Rattle.run_base.specs.Pieces.{TellsPieces};
+ghost use Rattle.run_base.specs.Pieces.{TellsCame};
 ghost use Rattle.run_base.specs.Found.{bytes_in, unless_faulty};
 
 use crate::fault::Fault;
@@ -87,7 +88,7 @@ pub fn read_kept<F: Files>(
 
 // The pieces of the open file, up to its end or to where they are more than a snapshot may be.
 fn read_pieces<F: Files>(alloc: Global, files: &mut F) -> Result<Splitter, Fault>
-    ensures pieces { IfSome (F.state files.old).told (λ store. IfOk result (TellsPieces (left store))) }
+    ensures pieces { IfSome (F.state files.old).told (λ store. IfOk result (TellsCame (left store))) }
     ensures contents { contents_told (F.state files.new).told ≡ contents_told (F.state files.old).told }
     ensures asked { (F.state files.new).asked ≡ (F.state files.old).asked }
     ensures later { (F.state files.old).faults ≤ (F.state files.new).faults }
@@ -110,7 +111,7 @@ fn read_pieces<F: Files>(alloc: Global, files: &mut F) -> Result<Splitter, Fault
 
 // The snapshot that pieces make, or why it is refused.
 fn kept(splitter: Splitter) -> Result<Result<Kept, Refusal>, Fault>
-    ensures found { IfOk result (λ found. unless_faulty splitter (refusal splitter) ≡ kept_bytes found) }
+    ensures found { (bytes : List ℕ) → Came bytes splitter → IfOk result (λ found. unless_faulty bytes (refusal bytes) ≡ kept_bytes found) }
     ensures memory { IfErr result (λ e. e ≡ Fault.Memory) }
 {
     match splitter.finish() {

@@ -10,10 +10,10 @@ use Rattle.feed_codec.specs.declared.refusal.Refusal.{Refusal}
 use Rattle.feed_codec.specs.Refusal.{refusal, refused as refused_at}
 use Rattle.feed_list.specs.declared.row.ListRow.{ListRow}
 use Rattle.timetable.specs.Timetables.{Tables}
-use Rattle.rule_core.specs.Found.{Found}
-use Rattle.rule_core.specs.History.{Snapshot, feed_limit, feed_limit-is}
-use Rattle.rule_core.specs.Findings.{findings}
-use Rattle.rule_core.specs.Standing.{Standing, Spot, stands_after}
+use Rattle.rule_table.specs.Found.{Found}
+use Rattle.rule_history.specs.History.{Snapshot, feed_limit, feed_limit-is}
+use Rattle.rule_history.specs.Findings.{findings}
+use Rattle.rule_history.specs.Standing.{Standing, Spot, stands_after}
 use Rattle.engine_laws.specs.Computed.{standing, standings, delta_after, since_of}
 use Rattle.engine_laws.specs.Delta.{Delta}
 use Rattle.engine_laws.proofs.Computed.{first_is_new}

@@ -6,8 +6,8 @@ use Rattle.std.specs.Io.KnownBytes.{append_known}
 use Rattle.rt_outside.specs.Sink.{AppendsPrefix}
 use Rattle.rt_outside.proofs.Appends.{append_known-nil, append_known-both, AppendsPrefix-first, AppendsPrefix-second, AppendsPrefix-whole}
 use denote.Ref.{Bor}
-use Rattle.rule_core.specs.Found.{Found}
-use Rattle.rule_core.specs.Standing.{Standing}
+use Rattle.rule_table.specs.Found.{Found}
+use Rattle.rule_history.specs.Standing.{Standing}
 use Rattle.follow_engine.specs.Left.{standing_of}
 use Rattle.rt_report.specs.declared.finding.LineKind.TheVariants as line
 use Rattle.rt_report.proofs.Joined.{or_apart, or_false}

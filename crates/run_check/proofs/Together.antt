@@ -10,7 +10,7 @@ use Rattle.rt_outside.proofs.Appends.{append_known-both, AppendsPrefix-first, Ap
 use Rattle.feed_list.specs.Lists.{IsWithinLimits}
 use Rattle.feed_list.specs.declared.row.ListRow.{ListRow}
 use Rattle.timetable.specs.Timetables.{Tables}
-use Rattle.rule_core.specs.Standing.{Standing}
+use Rattle.rule_history.specs.Standing.{Standing}
 use Rattle.engine_laws.specs.Computed.{standings}
 use Rattle.engine_laws.proofs.Computed.{list_is_computed}
 use Rattle.follow_engine.specs.declared.engine.Engine.{Engine}

@@ -3,7 +3,7 @@ use Rattle.std.specs.Prelude.{◌≡◌, ◌≢◌, ℕ, Bool, ◌||◌, List, [
 use Rattle.std.specs.Io.KnownBytes.{append_known}
 use Rattle.rt_outside.specs.Causes.{Rose}
 use Rattle.rt_outside.specs.Sink.{AppendsPrefix, SinkState}
-use Rattle.rule_core.specs.Standing.{Standing}
+use Rattle.rule_history.specs.Standing.{Standing}
 use Rattle.run_base.specs.declared.fault.Fault.{Fault}
 use Rattle.run_base.specs.declared.fault.Fault.TheVariants as fault
 use Rattle.run_base.specs.declared.status.Status.{Status}

@@ -1,6 +1,6 @@
 //! The command `check`.
 ghost use Rattle.std.specs.Prelude.{◌≡◌, ◌≤◌, Contains, length, option_copied};
-ghost use Rattle.rule_core.specs.Answered.{tables_of};
+ghost use Rattle.rule_history.specs.Answered.{tables_of};
 ghost use Rattle.run_words.specs.Words.{file_limit};
 ghost use Rattle.run_base.specs.Carried.{CarriesOut, exactly};
 ghost use Rattle.run_base.specs.Outside.{outside};

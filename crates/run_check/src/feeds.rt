@@ -2,7 +2,7 @@
 ghost use Rattle.std.specs.Prelude.{◌≡◌, ◌≤◌, Contains, IfOk, length};
 ghost use Rattle.feed_list.specs.Lists.{IsWithinLimits};
 ghost use Rattle.follow_engine.specs.Engines.{engine_data};
-ghost use Rattle.rule_core.specs.Answered.{tables_of};
+ghost use Rattle.rule_history.specs.Answered.{tables_of};
 ghost use Rattle.run_base.specs.Carried.{CarriesOut, exactly};
 ghost use Rattle.run_rows.specs.Rows.{paths_of};
 ghost use Rattle.run_base.specs.Outside.{outside};

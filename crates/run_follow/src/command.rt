@@ -2,7 +2,7 @@
 ghost use Rattle.std.specs.Prelude.{None, Contains, option_copied};
 ghost use Rattle.rt_outside.specs.Store.{contents_told};
 ghost use Rattle.feed_list.specs.Lists.{IsWithinLimits};
-ghost use Rattle.rule_core.specs.Answered.{tables_of};
+ghost use Rattle.rule_history.specs.Answered.{tables_of};
 ghost use Rattle.run_base.specs.Carried.{CarriesOut, exactly};
 ghost use Rattle.run_base.specs.Outside.{outside};
 ghost use Rattle.run_rows.specs.Rows.{all_rows, paths_of};

@@ -4,7 +4,7 @@ use Rattle.std.specs.declared.option.Option.{Option}
 use Rattle.std.specs.FinMap.{get}
 use Rattle.rt_outside.specs.Store.{Contents}
 use Rattle.timetable.specs.Timetables.{Tables, tables_of}
-use Rattle.timetable.specs.declared.fault.LoadFault.{LoadFault}
+use Rattle.timetable.specs.declared.LoadFault.{LoadFault}
 use Rattle.trip_calendar.specs.Zones.{zone_of}
 use Rattle.trip_calendar.specs.declared.zone.Zone.{Zone}
 use Rattle.run_base.proofs.Chosen.{each}

@@ -19,7 +19,7 @@ use Rattle.prediction_table.specs.Predictions.{AreRows, head_text}
 use Rattle.rt_outside.specs.Sink.{AppendsPrefix}
 use Rattle.rt_outside.specs.Store.{Contents}
 use Rattle.timetable.specs.Timetables.{Tables, tables_of}
-use Rattle.timetable.specs.declared.fault.LoadFault.{LoadFault}
+use Rattle.timetable.specs.declared.LoadFault.{LoadFault}
 use Rattle.trip_calendar.specs.Zones.{zone_of}
 use Rattle.trip_calendar.specs.declared.zone.Zone.{Zone}
 use Rattle.run_words.specs.declared.zone_word.ZoneWord.{ZoneWord}

@@ -13,7 +13,7 @@ ghost use Rattle.run_base.specs.Carried.{CarriesOut, WritesPart, WritesWhole};
 
 use crate::zone_input::{told_as, zone_input};
 use feed_values::{Entity, TripUpdate};
-use judging::count_one;
+use rule_table::count_one;
 use prediction_table::{prediction_head, prediction_rows};
 use propagation::Resolver;
 use rt_outside::{Files, Sink, put_all};

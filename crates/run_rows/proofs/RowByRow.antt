@@ -12,8 +12,8 @@ use Rattle.rt_outside.proofs.Appends.{append_known-both, AppendsPrefix-first, Ap
 use Rattle.feed_codec.specs.declared.refusal.Refusal.{Refusal}
 use Rattle.feed_list.specs.declared.row.ListRow.{ListRow}
 use Rattle.timetable.specs.Timetables.{Tables}
-use Rattle.rule_core.specs.History.{Snapshot}
-use Rattle.rule_core.specs.Changed.{with}
+use Rattle.rule_history.specs.History.{Snapshot}
+use Rattle.rule_history.specs.Changed.{with}
 use Rattle.engine_laws.specs.Delta.{Delta, IsDelta}
 use Rattle.engine_laws.proofs.Computed.{delta_is_computed}
 use Rattle.follow_engine.specs.declared.engine.Engine.{Engine}

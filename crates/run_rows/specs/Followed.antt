@@ -7,7 +7,7 @@ use Rattle.feed_codec.specs.declared.refusal.Refusal.{Refusal}
 use Rattle.feed_list.specs.declared.row.ListRow.{ListRow}
 use Rattle.feed_stream.specs.declared.kept.Kept.{Kept}
 use Rattle.timetable.specs.Timetables.{Tables}
-use Rattle.rule_core.specs.History.{Snapshot}
+use Rattle.rule_history.specs.History.{Snapshot}
 use Rattle.engine_laws.specs.Delta.{Delta}
 use Rattle.engine_laws.specs.Standings.{StandsFor}
 use Rattle.follow_engine.specs.declared.engine.Engine.{Engine}

@@ -7,8 +7,8 @@ use Rattle.feed_codec.specs.declared.refusal.Refusal.{Refusal}
 use Rattle.run_base.specs.Found.{bytes_in}
 use Rattle.timetable.specs.Timetables.{Tables}
 use Rattle.feed_list.specs.declared.row.ListRow.{ListRow}
-use Rattle.rule_core.specs.History.{Snapshot}
-use Rattle.rule_core.specs.Changed.{with}
+use Rattle.rule_history.specs.History.{Snapshot}
+use Rattle.rule_history.specs.Changed.{with}
 use Rattle.engine_laws.specs.Computed.{delta_after}
 use Rattle.engine_laws.specs.Delta.{Delta}
 use Rattle.snapshot_lines.specs.Lines.{line_of, accepted, refused}

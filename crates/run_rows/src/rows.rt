@@ -4,7 +4,7 @@ ghost use Rattle.rt_outside.specs.Causes.{Rose};
 ghost use Rattle.rt_outside.specs.Sink.{AppendsPrefix};
 ghost use Rattle.rt_outside.specs.Store.{contents_told};
 ghost use Rattle.feed_list.specs.Lists.{IsWithinLimits};
-ghost use Rattle.rule_core.specs.Answered.{tables_of};
+ghost use Rattle.rule_history.specs.Answered.{tables_of};
 ghost use Rattle.run_base.specs.Faults.{SaysFault};
 ghost use Rattle.run_rows.specs.Followed.{IsDone, IsRowFault};
 ghost use Rattle.run_rows.specs.Rows.{all_rows};

@@ -2,10 +2,10 @@
 use Rattle.std.proofs.Common.{drop-cons, refl, add-one, drop, get_or}
 use Rattle.std.specs.Prelude.{◌≡◌, ◌<◌, ◌+◌, ◌++◌, ℕ, suc, List, ◌∷◌, length, Option}
 use Rattle.feed_values.specs.declared.cell_value.CellValue.{CellValue}
-use Rattle.rule_core.specs.declared.ask.Ask.{Ask}
-use Rattle.rule_core.specs.declared.key.EntityKey.{EntityKey}
-use Rattle.rule_core.specs.declared.mark.Mark.{Mark}
-use Rattle.rule_core.specs.Marked.{marked, marked_at}
+use Rattle.rule_table.specs.declared.ask.Ask.{Ask}
+use Rattle.rule_table.specs.declared.key.EntityKey.{EntityKey}
+use Rattle.rule_table.specs.declared.mark.Mark.{Mark}
+use Rattle.rule_table.specs.Marked.{marked, marked_at}
 
 -- those of the mark at an index, and of the marks after it
 pub marked_from : (answer : Ask → Option CellValue) (key : EntityKey) (ms : List Mark) (i : ℕ) (m : Mark) → i < length ms

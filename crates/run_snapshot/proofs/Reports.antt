@@ -9,8 +9,8 @@ use Rattle.feed_values.proofs.SnapshotFields.{snapshot_is_its_fields}
 use Rattle.feed_codec.specs.declared.refusal.Refusal.{Refusal}
 use Rattle.feed_codec.specs.Refusal.{refusal}
 use Rattle.timetable.specs.Timetables.{Tables}
-use Rattle.rule_core.specs.Found.{Found}
-use Rattle.rule_core.specs.History.{feed_limit, feed_limit-is}
+use Rattle.rule_table.specs.Found.{Found}
+use Rattle.rule_history.specs.History.{feed_limit, feed_limit-is}
 use Rattle.judging.specs.Judged.{snapshot_found}
 use Rattle.judging.proofs.OneSnapshot.{one_snapshot}
 use Rattle.rt_report.specs.FindingLines.{finding_text, has_error}

@@ -6,7 +6,7 @@ use Rattle.std.specs.Io.KnownBytes.{append_known}
 use Rattle.std.proofs.lemmas.List.{append-nil}
 use Rattle.rt_outside.specs.Sink.{AppendsPrefix}
 use Rattle.rt_outside.proofs.Appends.{append_known-both, append_known-nil, AppendsPrefix-first, AppendsPrefix-second, AppendsPrefix-whole}
-use Rattle.rule_core.specs.Found.{Found}
+use Rattle.rule_table.specs.Found.{Found}
 use Rattle.rt_report.specs.declared.lines.Lines.{Lines}
 use Rattle.rt_report.specs.FindingLines.{AddsLines, finding_text, has_error}
 use Rattle.run_snapshot.specs.Sending.{Sends, SendsPart}

@@ -4,9 +4,9 @@ use Rattle.std.specs.List.{flat_map}
 use Rattle.feed_values.specs.Snapshot.{entities_of}
 use Rattle.feed_codec.specs.declared.refusal.Refusal.{Refusal}
 use Rattle.timetable.specs.Timetables.{Tables}
-use Rattle.rule_core.specs.Findings.{findings}
-use Rattle.rule_core.specs.Found.{Found}
-use Rattle.rule_core.specs.History.{Snapshot}
+use Rattle.rule_history.specs.Findings.{findings}
+use Rattle.rule_table.specs.Found.{Found}
+use Rattle.rule_history.specs.History.{Snapshot}
 use Rattle.snapshot_lines.specs.Lines.{line_of, accepted}
 use Rattle.rt_report.specs.FindingLines.{finding_text, has_error}
 use Rattle.run_base.specs.Report.{Report, found, refused_report}

@@ -3,7 +3,7 @@ use Rattle.std.specs.Prelude.{◌≡◌, ◌++◌, ◌||◌, ℕ, List, Option}
 use Rattle.std.specs.List.{flat_map}
 use Rattle.std.specs.Io.KnownBytes.{append_known}
 use Rattle.rt_outside.specs.Sink.{AppendsPrefix}
-use Rattle.rule_core.specs.Found.{Found}
+use Rattle.rule_table.specs.Found.{Found}
 use Rattle.rt_report.specs.declared.lines.Lines.{Lines}
 use Rattle.rt_report.specs.FindingLines.{finding_text, has_error}
 

@@ -2,7 +2,7 @@
 ghost use Rattle.std.specs.Prelude.{◌≡◌, IfOk, IsErrOf};
 ghost use Rattle.rt_outside.specs.Causes.{Rose};
 ghost use Rattle.rt_outside.specs.Sink.{AppendsPrefix};
-ghost use Rattle.rule_core.specs.Answered.{tables_of};
+ghost use Rattle.rule_history.specs.Answered.{tables_of};
 ghost use Rattle.run_base.specs.Found.{kept_bytes};
 ghost use Rattle.run_base.specs.Carried.{IsPut};
 ghost use Rattle.run_snapshot.specs.Reports.{accepted_report, found_report};

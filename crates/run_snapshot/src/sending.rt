@@ -6,7 +6,7 @@ ghost use Rattle.run_snapshot.specs.Sending.{Sends, SendsPart, SendsText};
 
 use rt_outside::{Failed, Sink, put_all};
 use rt_report::Lines;
-use rule_core::Finding;
+use rule_table::Finding;
 use run_base::Fault;
 use std::alloc::Global;
 

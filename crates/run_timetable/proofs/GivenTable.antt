@@ -7,9 +7,9 @@ use Rattle.rt_outside.specs.Store.{Contents, FilesState, contents_told}
 use Rattle.timetable.specs.Folders.{path}
 use Rattle.timetable.specs.Lookups.{is_present, tables_in}
 use Rattle.timetable.specs.Timetables.{Tables, tables_of}
-use Rattle.timetable.specs.declared.fault.LoadFault.{LoadFault}
-use Rattle.timetable.specs.declared.fault.LoadFault.TheVariants as load
-use Rattle.timetable.specs.declared.file.File.{File}
+use Rattle.timetable.specs.declared.LoadFault.{LoadFault}
+use Rattle.timetable.specs.declared.LoadFault.TheVariants as load
+use Rattle.timetable.specs.declared.File.{File}
 use Rattle.timetable.specs.declared.timetable.Timetable.{Timetable}
 use Rattle.run_base.specs.declared.input_fault.InputFault.{InputFault}
 use Rattle.run_base.specs.declared.status.Status.{Status}

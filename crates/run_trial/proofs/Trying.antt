@@ -8,9 +8,9 @@ use Rattle.std.proofs.lemmas.List.Sums.{sum_by_push}
 use Rattle.rt_outside.specs.Causes.{Rose}
 use Rattle.rt_outside.specs.Store.{Contents}
 use Rattle.timetable.specs.Timetables.{Tables, tables_of}
-use Rattle.timetable.specs.declared.fault.LoadFault.{LoadFault}
-use Rattle.rule_core.specs.Changed.{with}
-use Rattle.rule_core.specs.History.{Snapshot}
+use Rattle.timetable.specs.declared.LoadFault.{LoadFault}
+use Rattle.rule_history.specs.Changed.{with}
+use Rattle.rule_history.specs.History.{Snapshot}
 use Rattle.engine_laws.specs.Computed.{delta_after, standings}
 use Rattle.engine_laws.specs.Delta.{Delta, IsDelta}
 use Rattle.engine_laws.proofs.Computed.{delta_is_computed, list_is_computed}

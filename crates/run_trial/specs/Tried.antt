@@ -2,9 +2,9 @@
 use Rattle.std.specs.Prelude.{codes, ◌≡◌, ℕ, ◌+◌, List, [], ◌∷◌, length, Option, Some}
 use Rattle.std.specs.List.{sum_by}
 use Rattle.timetable.specs.Timetables.{Tables}
-use Rattle.rule_core.specs.History.{Snapshot}
-use Rattle.rule_core.specs.Changed.{with}
-use Rattle.rule_core.specs.Standing.{Standing}
+use Rattle.rule_history.specs.History.{Snapshot}
+use Rattle.rule_history.specs.Changed.{with}
+use Rattle.rule_history.specs.Standing.{Standing}
 use Rattle.engine_laws.specs.Computed.{delta_after, standings}
 use Rattle.engine_laws.specs.Delta.{Delta}
 use Rattle.trial_feed.specs.Files.{trial_contents}

@@ -1,7 +1,7 @@
 //! The command `trial`.
 ghost use Rattle.std.specs.Prelude.{List, ℕ};
 ghost use Rattle.rt_outside.specs.Store.{FilesState};
-ghost use Rattle.rule_core.specs.Answered.{tables_of};
+ghost use Rattle.rule_history.specs.Answered.{tables_of};
 ghost use Rattle.run_base.specs.Carried.{CarriesOut, exactly};
 ghost use Rattle.trial_feed.specs.Snapshots.{trial_snapshots};
 ghost use Rattle.run_base.specs.Outside.{outside};

@@ -2,9 +2,9 @@
 ghost use Rattle.std.specs.Prelude.{◌≡◌, ◌<◌, None, List, Option, IfOk, length};
 ghost use Rattle.feed_codec.specs.Refusal.{refusal};
 ghost use Rattle.follow_engine.specs.Engines.{engine_data};
-ghost use Rattle.rule_core.specs.Answered.{tables_of};
-ghost use Rattle.rule_core.specs.Changed.{with};
-ghost use Rattle.rule_core.specs.History.{Snapshot};
+ghost use Rattle.rule_history.specs.Answered.{tables_of};
+ghost use Rattle.rule_history.specs.Changed.{with};
+ghost use Rattle.rule_history.specs.History.{Snapshot};
 ghost use Rattle.timetable.specs.Timetables.{Tables};
 ghost use Rattle.trial_feed.specs.Snapshots.{trial_snapshots};
 ghost use Rattle.run_trial.specs.Tried.{IsSummedUp, history_text, numbered, summary_text};

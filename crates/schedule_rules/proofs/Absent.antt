@@ -3,35 +3,32 @@ use Rattle.std.specs.Prelude.{◌≡◌, ℕ, zero, suc, Bool, true, false, ◌|
 use Rattle.std.specs.List.{list_any, list_all}
 use Rattle.std.proofs.Common.{sym, ap, ◌∙◌}
 use borrow.Author.Tests.{clash}
+use Rattle.std.proofs.lemmas.Bool.{and_parts}
 use Rattle.feed_values.specs.declared.slot.Slot.{Slot}
 use Rattle.feed_values.specs.declared.path.Path.{Path}
 use Rattle.feed_values.specs.declared.cell_value.CellValue.{CellValue}
 use Rattle.feed_values.specs.Schema.{Value}
 use Rattle.feed_values.specs.Messages.{entity}
-use Rattle.rule_core.specs.declared.rule.RuleId.{RuleId}
-use Rattle.rule_core.specs.declared.ask.Ask.{Ask}
-use Rattle.rule_core.specs.declared.ask.Ask.TheVariants as ask
-use Rattle.rule_core.specs.declared.row.Cite.{Cite}
-use Rattle.rule_core.specs.declared.fact.Fact.{Fact}
-use Rattle.rule_core.specs.declared.key.EntityKey.{EntityKey}
-use Rattle.rule_core.specs.declared.place.Place.TheVariants as place
-use Rattle.rule_core.specs.Asked.{ask_at}
-use Rattle.rule_core.specs.Cited.{and_then, answered, fact_at, values_of}
-use Rattle.rule_core.specs.CitedLaws.{both_same, Ends, found_ends}
-use Rattle.rule_core.specs.Answered.{local_answer}
-use Rattle.rule_core.specs.Table.{slots_of, cites_of}
-use Rattle.rule_core.specs.Judged.{places_at, found_at, found_below, found_in, found_by, found_all}
-use Rattle.rule_core.specs.GroupLaws.{and_true}
-use Rattle.rule_core.specs.Sources.{Source, from_timetable, source_of, source_at, asked_from}
+use Rattle.rule_table.specs.declared.rule.RuleId.{RuleId}
+use Rattle.rule_table.specs.declared.ask.Ask.{Ask}
+use Rattle.rule_table.specs.declared.ask.Ask.TheVariants as ask
+use Rattle.rule_table.specs.declared.row.Cite.{Cite}
+use Rattle.rule_table.specs.declared.fact.Fact.{Fact}
+use Rattle.rule_table.specs.declared.key.EntityKey.{EntityKey}
+use Rattle.rule_table.specs.declared.place.Place.TheVariants as place
+use Rattle.rule_table.specs.Asked.{ask_at}
+use Rattle.rule_table.specs.Cited.{and_then, answered, fact_at, values_of}
+use Rattle.rule_table.specs.CitedLaws.{both_same, Ends, found_ends}
+use Rattle.rule_history.specs.Answered.{local_answer}
+use Rattle.rule_table.specs.Table.{slots_of, cites_of}
+use Rattle.rule_table.specs.Judged.{places_at, found_below, found_in, found_by, found_all}
+use Rattle.rule_table.specs.Asks.{asks, is_timetable}
+use Rattle.rule_table.specs.Sources.{source_of, source_at, asked_from}
 use Rattle.schedule_rules.specs.Schedule.{schedule_rules}
 use Rattle.schedule_rules.specs.Absent.{NoTimetableNoFindings}
 
-abbrev pub is_timetable : Source → Bool
-is_timetable from_timetable = true
-is_timetable _ = false
-
 abbrev pub asks_timetable : RuleId → Bool
-asks_timetable rule = list_any (λ c. is_timetable (source_at c)) (cites_of rule)
+asks_timetable = asks is_timetable
 
 -- for what answers nothing that comes from the timetable
 module _ (answer : Ask → Option CellValue) (unanswered : (q : Ask) → is_timetable (source_of q) ≡ true → answer q ≡ None) (k : EntityKey) (e : Value entity) where
@@ -53,10 +50,10 @@ module _ (answer : Ask → Option CellValue) (unanswered : (q : Ask) → is_time
         | false ↦ λ _ m f a. ends p (before ++ f ∷ []) cs m
       ] refl h
 
-  module _ (rule : RuleId) (asks : asks_timetable rule ≡ true) where
+  module _ (rule : RuleId) (asked : asks_timetable rule ≡ true) where
     below_none : (s : Slot) (n : ℕ) → found_below rule answer k s n ≡ []
     below_none s zero = refl
-    below_none s (suc i) = both_same (below_none s i) (found_ends rule answer (place.Entity k (record { slot = s; index = i })) (ends (record { slot = s; index = i }) [] (cites_of rule) asks))
+    below_none s (suc i) = both_same (below_none s i) (found_ends rule answer (place.Entity k (record { slot = s; index = i })) (ends (record { slot = s; index = i }) [] (cites_of rule) asked))
 
     in_none : (slots : List Slot) → found_in rule answer k e slots ≡ []
     in_none [] = refl
@@ -69,7 +66,7 @@ module _ (answer : Ask → Option CellValue) (unanswered : (q : Ask) → is_time
   all_none : (rules : List RuleId) → list_all asks_timetable rules ≡ true → found_all rules answer k e ≡ []
   all_none [] t = refl
   all_none (rule ∷ rules) t =
-      let ts = and_true (asks_timetable rule) (list_all asks_timetable rules) t in
+      let ts = and_parts (asks_timetable rule) (list_all asks_timetable rules) t in
       both_same (by_none rule ts.0) (all_none rules ts.1)
 
 -- without a timetable an entity answers nothing of it

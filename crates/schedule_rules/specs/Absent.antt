@@ -2,9 +2,9 @@
 use Rattle.std.specs.Prelude.{◌≡◌, [], None}
 use Rattle.feed_values.specs.Schema.{Value}
 use Rattle.feed_values.specs.Messages.{entity}
-use Rattle.rule_core.specs.declared.key.EntityKey.{EntityKey}
-use Rattle.rule_core.specs.Judged.{found_all}
-use Rattle.rule_core.specs.Answered.{local_answer}
+use Rattle.rule_table.specs.declared.key.EntityKey.{EntityKey}
+use Rattle.rule_table.specs.Judged.{found_all}
+use Rattle.rule_history.specs.Answered.{local_answer}
 use Rattle.schedule_rules.specs.Schedule.{schedule_rules}
 
 -- nothing, at every entity

@@ -1,12 +1,13 @@
 -- The rules against the timetable: those that ask it something.
-use Rattle.std.specs.Prelude.{◌≡◌, true, length, List, [], ◌∷◌, refl}
-use Rattle.rule_core.specs.declared.rule.RuleId.{RuleId}
-use Rattle.rule_core.specs.Groups.{are_apart}
-use Rattle.rule_core.specs.declared.rule.RuleId.TheVariants.{E003, E004, E006, E009, E011, E013, E015, E016, E019, E023, E024, E030, E034, E035, E045, E046, E051, W005}
+use Rattle.std.specs.Prelude.{◌≡◌, true, length, filter, List, refl}
+use Rattle.rule_table.specs.declared.rule.RuleId.{RuleId}
+use Rattle.rule_table.specs.Groups.{are_apart}
+use Rattle.rule_table.specs.Asks.{asks, is_timetable}
+use Rattle.rule_table.specs.Table.{all_rules}
 
--- all 18 of them, in the order of their texts
+-- in the order of their texts
 unfoldable pub schedule_rules : List RuleId
-schedule_rules = E003 ∷ E004 ∷ E006 ∷ E009 ∷ E011 ∷ E013 ∷ E015 ∷ E016 ∷ E019 ∷ E023 ∷ E024 ∷ E030 ∷ E034 ∷ E035 ∷ E045 ∷ E046 ∷ E051 ∷ W005 ∷ []
+schedule_rules = filter (asks is_timetable) all_rules
 
 -- none of them stands twice
 pub schedule_apart : are_apart schedule_rules ≡ true

@@ -1,13 +1,14 @@
 //! The group.
 ghost use Rattle.std.specs.Prelude.{◌≡◌};
-ghost use Rattle.rule_core.specs.Answered.{local_answer};
-ghost use Rattle.rule_core.specs.Judged.{found_all};
-ghost use Rattle.rule_core.specs.GroupLaws.{all_own, all_once};
+ghost use Rattle.rule_history.specs.Answered.{local_answer};
+ghost use Rattle.rule_table.specs.Judged.{found_all};
+ghost use Rattle.rule_table.specs.GroupLaws.{all_own, all_once};
 ghost use Rattle.schedule_rules.specs.Schedule.{schedule_rules, schedule_apart};
 
 use feed_values::Entity;
 use rt_outside::Steps;
-use rule_core::{EntityKey, FindingList, Listed, LocalRule, RuleId, Rules};
+use rule_clear::{Listed, LocalRule};
+use rule_table::{EntityKey, FindingList, RuleId, Rules};
 use std::alloc::{AllocError, Global};
 use std::sync::ledger::Ledger;
 use timetable::Timetable;
@@ -33,7 +34,7 @@ const RULES: &[RuleId] = &[
     RuleId::W005,
 ];
 
-/// The 18 rules against the timetable, in the order of their texts.
+/// The rules against the timetable, in the order of their texts.
 #[derive(Drop)]
 pub struct ScheduleGroup {
     inner: Listed,

@@ -1,4 +1,4 @@
-//! The rules against the timetable, as a group: 18 rows of the table of `rule_core`, each of which asks the timetable. Where
+//! The rules against the timetable, as a group: the rows of the table of `rule_table`, each of which asks the timetable. Where
 //! the timetable is absent there are no findings.
 //!
 //! `group` is the group, and `laws` says that it finds nothing where there is no timetable.

@@ -13,16 +13,16 @@ use Rattle.std.specs.Map.{keys_of}
 use Rattle.std.specs.Option.{option_and_then}
 use Rattle.std.specs.Ordering.{eq_by_cmp, nat_cmp}
 use Rattle.std.specs.Str.{bytes_eq}
-use Rattle.timetable.specs.Maps.{Text}
-use Rattle.timetable.specs.Stops.{HoldsVisits, StopTable, stop_time_at, visit_of}
-use Rattle.timetable.specs.Times.{BySequence}
+use Rattle.schedule_tables.specs.Maps.{Text}
+use Rattle.schedule_tables.specs.Stops.{HoldsVisits, StopTable, stop_time_at, visit_of}
+use Rattle.schedule_tables.specs.Times.{BySequence}
 use Rattle.timetable.specs.Timetables.{StopsTwice, returns_to, trip_times, visits_twice}
-use Rattle.timetable.specs.declared.visit.Visit.{Visit}
-use Rattle.timetable.specs.declared.row.Row.{Row}
-use Rattle.timetable.specs.declared.stop_time.StopTime.{StopTime}
-use Rattle.timetable.proofs.KeyedLemmas.{one_key}
-use Rattle.timetable.proofs.RowLemmas.{find-lookup}
-use Rattle.timetable.proofs.SequenceLemmas.{both_true, less}
+use Rattle.schedule_rows.specs.declared.visit.Visit.{Visit}
+use Rattle.schedule_rows.specs.declared.row.Row.{Row}
+use Rattle.schedule_tables.specs.declared.stop_time.StopTime.{StopTime}
+use Rattle.schedule_tables.proofs.KeyedLemmas.{one_key}
+use Rattle.schedule_tables.proofs.RowLemmas.{find-lookup}
+use Rattle.schedule_tables.proofs.SequenceLemmas.{both_true, less}
 
 -- ---- a number that stands twice in a list
 

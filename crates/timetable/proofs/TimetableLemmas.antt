@@ -3,27 +3,27 @@ use Rattle.std.proofs.Common.{◌≡◌, ◌<◌, inl, inr, ℕ, List, [], ◌�
 use Rattle.std.specs.FinMap.{empty, entries, get, get-empty}
 use Rattle.std.specs.Option.{option_and_then, option_copied}
 use Rattle.rt_outside.specs.Store.{Contents}
-use Rattle.timetable.specs.Cells.{then_with}
-use Rattle.timetable.specs.Folders.{IsRead}
-use Rattle.timetable.specs.Laws.{FollowsRows}
-use Rattle.timetable.specs.Maps.{ByText, Text}
+use Rattle.csv_records.specs.Results.{then_with}
+use Rattle.schedule_tables.specs.Folders.{IsRead}
+use Rattle.schedule_tables.specs.Laws.{FollowsRows}
+use Rattle.schedule_tables.specs.Maps.{ByText, Text}
 use Rattle.timetable.specs.Lookups.{IsServiceOf, tables_from_held, tables_held, tables_in, trip_row, trips_in}
-use Rattle.timetable.specs.Numbers.{HasNumber}
-use Rattle.timetable.specs.Records.{Record, records_of}
-use Rattle.timetable.specs.Stops.{HaveStops, HoldsVisits, StopTable, visit_key, visits}
-use Rattle.timetable.specs.Tables.{table_in, table_of_records, without_mark}
-use Rattle.timetable.specs.Times.{BySequence, keyed}
+use Rattle.schedule_tables.specs.Numbers.{HasNumber}
+use Rattle.csv_records.specs.Records.{Record, records_of}
+use Rattle.schedule_tables.specs.Stops.{HaveStops, HoldsVisits, StopTable, visit_key, visits}
+use Rattle.schedule_tables.specs.Tables.{table_in, table_of_records, without_mark}
+use Rattle.schedule_tables.specs.Times.{BySequence, keyed}
 use Rattle.timetable.specs.Timetables.{Loaded, Tables, loaded_from, no_tables, tables_from, tables_of, trip_times}
-use Rattle.timetable.specs.declared.trip.Trip.{Trip}
-use Rattle.timetable.specs.declared.visit.Visit.{Visit}
-use Rattle.timetable.specs.declared.row.Row.{Row}
-use Rattle.timetable.specs.declared.stop_time.StopTime.{StopTime}
+use Rattle.schedule_rows.specs.declared.trip.Trip.{Trip}
+use Rattle.schedule_rows.specs.declared.visit.Visit.{Visit}
+use Rattle.schedule_rows.specs.declared.row.Row.{Row}
+use Rattle.schedule_tables.specs.declared.stop_time.StopTime.{StopTime}
 use Rattle.timetable.specs.declared.timetable.HeldTables.{HeldTables}
 use Rattle.timetable.specs.declared.timetable.ServiceNo.{ServiceNo}
 use Rattle.timetable.specs.declared.timetable.Timetable.{Timetable}
-use Rattle.timetable.proofs.LawLemmas.{follows_rows}
-use Rattle.timetable.proofs.SequenceLemmas.{entries-empty}
-use Rattle.timetable.proofs.VisitLemmas.{keeps_visits}
+use Rattle.schedule_tables.proofs.LawLemmas.{follows_rows}
+use Rattle.schedule_tables.proofs.SequenceLemmas.{entries-empty}
+use Rattle.schedule_tables.proofs.VisitLemmas.{keeps_visits}
 
 law : FollowsRows visits visit_key.same HoldsVisits
 law = follows_rows visits visit_key.same HoldsVisits keeps_visits

@@ -1,13 +1,13 @@
 -- Trips that visit a stop twice.
 use Rattle.std.proofs.Common.{◌≡◌, List, [], false, Some, None, map, unwrap_or, sym, ap, ◌∙◌}
 use Rattle.std.specs.FinMap.{empty, entries, get}
-use Rattle.timetable.specs.Maps.{Text}
-use Rattle.timetable.specs.Stops.{StopTable}
-use Rattle.timetable.specs.Times.{BySequence, keyed}
+use Rattle.schedule_tables.specs.Maps.{Text}
+use Rattle.schedule_tables.specs.Stops.{StopTable}
+use Rattle.schedule_tables.specs.Times.{BySequence, keyed}
 use Rattle.timetable.specs.Timetables.{returns_to, trip_times, visits_twice}
-use Rattle.timetable.proofs.RowLemmas.{unkeyed}
-use Rattle.timetable.proofs.SequenceLemmas.{entries-empty}
-use Rattle.timetable.specs.declared.stop_time.StopTime.{StopTime}
+use Rattle.schedule_tables.proofs.RowLemmas.{unkeyed}
+use Rattle.schedule_tables.proofs.SequenceLemmas.{entries-empty}
+use Rattle.schedule_tables.specs.declared.stop_time.StopTime.{StopTime}
 
 -- the stop times of a trip, by rising sequence, tell
 pub returns_to-entries : (table : StopTable) (id : Text) (trip : BySequence) (ts : List StopTime) → Some trip ≡ get table.times id → keyed ts ≡ entries trip

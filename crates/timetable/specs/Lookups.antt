@@ -1,11 +1,11 @@
 -- What a timetable's look-ups answer.
 use Rattle.std.specs.Prelude.{◌≡◌, ◌<◌, ℕ, List, [], Bool, length, Option, Some, is_some, option_map, unwrap_or}
 use Rattle.std.specs.FinMap.{get}
-use Rattle.timetable.specs.Maps.{Text}
-use Rattle.timetable.specs.Numbers.{HasNumber, map_of}
+use Rattle.schedule_tables.specs.Maps.{Text}
+use Rattle.schedule_tables.specs.Numbers.{HasNumber, map_of}
 use Rattle.timetable.specs.Timetables.{Tables, no_tables}
-use Rattle.timetable.specs.declared.grouped.Only.{Only}
-use Rattle.timetable.specs.declared.trip.Trip.{Trip}
+use Rattle.schedule_tables.specs.declared.grouped.Only.{Only}
+use Rattle.schedule_rows.specs.declared.trip.Trip.{Trip}
 use Rattle.timetable.specs.declared.timetable.HeldTables.{HeldTables}
 use Rattle.timetable.specs.declared.timetable.ServiceNo.{ServiceNo}
 use Rattle.timetable.specs.declared.timetable.Timetable.{Timetable}

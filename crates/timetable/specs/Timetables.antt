@@ -3,25 +3,25 @@ use Rattle.std.specs.Prelude.{◌≡◌, ◌<◌, ◌↔◌, ◌==◌, ◌||◌,
 use Rattle.std.specs.List.{list_any}
 use Rattle.std.specs.FinMap.{empty, entries, get}
 use Rattle.rt_outside.specs.Store.{Contents}
-use Rattle.timetable.specs.Cells.{then_with}
-use Rattle.timetable.specs.Folders.{both, table_of_file}
-use Rattle.timetable.specs.Formats.{agencies, dates, departures, routes, services, stops, trips}
-use Rattle.timetable.specs.Groups.{ByDay}
-use Rattle.timetable.specs.Maps.{ByText, Text}
-use Rattle.timetable.specs.Numbers.{HasNumber}
-use Rattle.timetable.specs.Stops.{StopTable, stop_time_at, visit_of, visits}
-use Rattle.timetable.specs.Tables.{table_in}
-use Rattle.timetable.specs.Times.{BySequence}
-use Rattle.timetable.specs.declared.fault.LoadFault.{LoadFault}
-use Rattle.timetable.specs.declared.grouped.Only.{Only}
-use Rattle.timetable.specs.declared.agency.Agency.{Agency}
-use Rattle.timetable.specs.declared.frequency.Frequency.{Frequency}
-use Rattle.timetable.specs.declared.route.Route.{Route}
-use Rattle.timetable.specs.declared.service_row.ServiceRow.{ServiceRow}
-use Rattle.timetable.specs.declared.stop.Stop.{Stop}
-use Rattle.timetable.specs.declared.trip.Trip.{Trip}
-use Rattle.timetable.specs.declared.visit.Visit.{Visit}
-use Rattle.timetable.specs.declared.stop_time.StopTime.{StopTime}
+use Rattle.csv_records.specs.Results.{then_with}
+use Rattle.schedule_tables.specs.Folders.{both, table_of_file}
+use Rattle.schedule_tables.specs.Formats.{agencies, dates, departures, routes, services, stops, trips}
+use Rattle.schedule_tables.specs.Groups.{ByDay}
+use Rattle.schedule_tables.specs.Maps.{ByText, Text}
+use Rattle.schedule_tables.specs.Numbers.{HasNumber}
+use Rattle.schedule_tables.specs.Stops.{StopTable, stop_time_at, visit_of, visits}
+use Rattle.schedule_tables.specs.Tables.{table_in}
+use Rattle.schedule_tables.specs.Times.{BySequence}
+use Rattle.schedule_tables.specs.declared.fault.LoadFault.{LoadFault}
+use Rattle.schedule_tables.specs.declared.grouped.Only.{Only}
+use Rattle.schedule_rows.specs.declared.agency.Agency.{Agency}
+use Rattle.schedule_rows.specs.declared.frequency.Frequency.{Frequency}
+use Rattle.schedule_rows.specs.declared.route.Route.{Route}
+use Rattle.schedule_rows.specs.declared.service_row.ServiceRow.{ServiceRow}
+use Rattle.schedule_rows.specs.declared.stop.Stop.{Stop}
+use Rattle.schedule_rows.specs.declared.trip.Trip.{Trip}
+use Rattle.schedule_rows.specs.declared.visit.Visit.{Visit}
+use Rattle.schedule_tables.specs.declared.stop_time.StopTime.{StopTime}
 
 -- what the eight files say
 pub record Tables : Type 0 where

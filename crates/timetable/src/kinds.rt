@@ -3,9 +3,8 @@
 ghost use Rattle.std.specs.Prelude.{◌≡◌, IfOk};
 ghost use Rattle.timetable.specs.Timetables.{KnowsKinds, kind_in};
 
-use crate::grouped::{Grouped, Only};
-use crate::stop::Stop;
-use crate::stop_ids::StopIds;
+use schedule_rows::Stop;
+use schedule_tables::{Grouped, Only, StopIds};
 use std::alloc::{AllocError, Global};
 
 /// The location type of a stop of stops.txt.

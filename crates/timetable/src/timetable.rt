@@ -4,34 +4,23 @@ ghost use Rattle.std.specs.Prelude.{ℕ, ◌≡◌, ◌≢◌, ◌≤◌, Ok, Er
 ghost use Rattle.std.specs.FinMap as map;
 ghost use Rattle.rt_outside.specs.Causes.{Rose};
 ghost use Rattle.rt_outside.specs.Store.{contents_told};
-ghost use Rattle.timetable.specs.Folders.{path};
-ghost use Rattle.timetable.specs.Maps.{Text};
-ghost use Rattle.timetable.specs.Stops.{HaveStops, stop_time_at};
-ghost use Rattle.timetable.specs.Times.{keyed};
+ghost use Rattle.schedule_tables.specs.Folders.{path};
+ghost use Rattle.schedule_tables.specs.Maps.{Text};
+ghost use Rattle.schedule_tables.specs.Stops.{HaveStops, stop_time_at};
+ghost use Rattle.schedule_tables.specs.Times.{keyed};
 ghost use Rattle.timetable.specs.Timetables.{KnowsKinds, KnowsTwice};
-ghost use Rattle.timetable.specs.declared.fault.LoadFault.TheVariants as fault;
-ghost use Rattle.timetable.specs.declared.file.File.{File};
+ghost use Rattle.schedule_tables.specs.declared.fault.LoadFault.TheVariants as fault;
+ghost use Rattle.schedule_rows.specs.declared.file.File.{File};
 
-use crate::agency::Agency;
-use crate::exceptions::Exceptions;
-use crate::fault::LoadFault;
-use crate::folder::Source;
-use crate::frequencies::Frequencies;
-use crate::frequency::Frequency;
-use crate::grouped::{Grouped, Only};
 use crate::kinds::{kind, kinds_by_number};
-use crate::numbered::Numbered;
-use crate::route::Route;
-use crate::service_row::ServiceRow;
-use crate::stop::Stop;
-use crate::stop_time::StopTime;
-use crate::stop_times::StopTimes;
-use crate::trip::Trip;
-use crate::trip_times::TripTimes;
-use crate::trips::Trips;
 use crate::twice::trips_that_return;
 use rt_day::Day;
 use rt_outside::Files;
+use schedule_rows::{Agency, Frequency, Route, ServiceRow, Stop, Trip};
+use schedule_tables::{
+    Exceptions, Frequencies, Grouped, LoadFault, Numbered, Only, Source, StopTime, StopTimes,
+    TripTimes, Trips,
+};
 use std::alloc::{AllocError, Global};
 
 /// The greatest size of a file, in bytes.
@@ -101,6 +90,32 @@ pub(crate) type Loaded = (
     ),
 );
 
+/// For each trip, by number, whether it visits some stop twice; and for each stop of the stop times its location type.
+fn found_by_number(
+    alloc: Global,
+    stops: &Grouped<Only<Stop>>,
+    trips: &Numbered<Only<Trip>>,
+    stop_times: &StopTimes,
+) -> Result<(Vec<bool>, Vec<Option<u32>>), AllocError>
+    ensures twice { IfOk result (λ found. KnowsTwice trips.now stop_times.now found.0.items) }
+    ensures kinds { IfOk result (λ found. KnowsKinds stops.now stop_times.now.stops found.1.items) }
+{
+    let twice = trips_that_return(alloc, trips, stop_times)?;
+    let kinds = kinds_by_number(alloc, stops, stop_times.stops())?;
+    Ok((twice, kinds))
+}
+
+/// What is kept, with what was made meanwhile. Where that wasn't made, what is kept is given up: here it is one thing,
+/// whatever it is made of, so that its drop is proved once.
+fn with_made<K: Drop, M>(kept: K, made: Result<M, AllocError>) -> Result<(K, M), AllocError>
+    ensures { IfOk result (λ both. (both.0 ≡ kept) × (made ≡ Ok both.1)) }
+{
+    match made {
+        Ok(made) => Ok((kept, made)),
+        Err(error) => Err(error),
+    }
+}
+
 impl Timetable {
     ghost use Rattle.timetable.specs.Lookups.{IsService, IsServiceOf, IsStop, IsTrip, IsTripOf, is_present, tables_held, tables_in, trip_row};
     ghost use Rattle.timetable.specs.Timetables.{no_tables, stop_times_in, tables_from, tables_of, trip_times, visits_twice};
@@ -144,10 +159,12 @@ impl Timetable {
         ensures tables { IfOk result (λ timetable. tables_from loaded ≡ tables_in timetable) }
     {
         let (agencies, (stops, (routes, (trips, (stop_times, rest))))) = loaded;
-        let (services, (exceptions, frequencies)) = rest;
         let trips = trips.into_numbered();
-        let twice = trips_that_return(alloc, &trips, &stop_times)?;
-        let kinds = kinds_by_number(alloc, &stops, stop_times.stops())?;
+        let found = found_by_number(alloc, &stops, &trips, &stop_times);
+        let kept = (agencies, (stops, (routes, (trips, (stop_times, rest)))));
+        let (kept, (twice, kinds)) = with_made(kept, found)?;
+        let (agencies, (stops, (routes, (trips, (stop_times, rest))))) = kept;
+        let (services, (exceptions, frequencies)) = rest;
         let held = HeldTables {
             agencies,
             stops,

@@ -3,11 +3,8 @@
 ghost use Rattle.std.specs.Prelude.{◌≡◌, [], IfOk};
 ghost use Rattle.timetable.specs.Timetables.{KnowsTwice, returns_to, trip_times, visits_twice};
 
-use crate::grouped::Only;
-use crate::numbered::Numbered;
-use crate::stop_time::StopTime;
-use crate::stop_times::StopTimes;
-use crate::trip::Trip;
+use schedule_rows::Trip;
+use schedule_tables::{Numbered, Only, StopTime, StopTimes};
 use std::alloc::{AllocError, Global};
 use std::collections::HashSet;
 

@@ -1,7 +1,7 @@
 //! Asks of a list of snapshots.
 
 use crate::held::Held;
-use cases::{say, say_some, word};
+use cases::{say, word};
 use feed_list::{ListRow, read_list};
 use std::alloc::{AllocError, Global};
 
@@ -19,7 +19,7 @@ fn say_rows(alloc: Global, rows: &[ListRow], out: &mut Vec<u8>) -> Result<(), Al
 fn say_list(alloc: Global, held: &Held, name: &str, out: &mut Vec<u8>) -> Result<(), AllocError> {
     match read_list(alloc, &mut held.files()?, name) {
         Ok(list) => say_rows(alloc, list.as_slice(), out),
-        Err(fault) => say_some(alloc, out, Some(fault)),
+        Err(fault) => say(out, format!(in alloc; "{fault:?}")?.as_str()),
     }
 }
 

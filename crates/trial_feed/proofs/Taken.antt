@@ -4,7 +4,7 @@ use Rattle.std.specs.List.{AllByRecursion}
 use Rattle.feed_codec.specs.Refusal.{refusal}
 use Rattle.feed_codec.proofs.Roundtrips.{canonical_means_value, encoded_decodes}
 use Rattle.feed_codec.proofs.SnapshotFaults.{refusal_is_first}
-use Rattle.rule_core.specs.History.{IsTaken, IsHistory}
+use Rattle.rule_history.specs.History.{IsTaken, IsHistory}
 use Rattle.trial_feed.specs.Moving.{Moving, begun, advanced, IsWithin}
 use Rattle.trial_feed.specs.Messages.{snapshot_value, snapshot_bytes}
 use Rattle.trial_feed.specs.Snapshots.{snapshot_of, snapshots_from, trial_snapshots}

@@ -2,7 +2,7 @@
 use Rattle.std.specs.Prelude.{◌≡◌, ℕ, ◌+◌, ◌<◌, None, length}
 use Rattle.std.specs.List.{AllByRecursion}
 use Rattle.feed_codec.specs.Refusal.{refusal}
-use Rattle.rule_core.specs.History.{IsHistory}
+use Rattle.rule_history.specs.History.{IsHistory}
 use Rattle.trial_feed.specs.Moving.{Moving, IsWithin}
 use Rattle.trial_feed.specs.Messages.{snapshot_bytes}
 use Rattle.trial_feed.specs.Snapshots.{trial_snapshots}

@@ -1,6 +1,6 @@
 -- The snapshots of the trial, one after the other. (This profile.)
 use Rattle.std.specs.Prelude.{◌≡◌, ℕ, zero, suc, ◌+◌, List, [], ◌∷◌, refl}
-use Rattle.rule_core.specs.History.{Snapshot}
+use Rattle.rule_history.specs.History.{Snapshot}
 use Rattle.trial_feed.specs.Moving.{Moving, begun, advanced}
 use Rattle.trial_feed.specs.Messages.{feed_of, moment_of, snapshot_bytes}
 

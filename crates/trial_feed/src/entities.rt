@@ -22,9 +22,7 @@ fn numbered(alloc: Global, letter: &str, number: usize) -> Result<Text, AllocErr
     ensures { IfOk result (λ text. text ≡ numbered letter.now number) }
 {
     let written = format!(in alloc; "{letter}{number}")?;
-    let mut text = Text::new(alloc);
-    text.push(written.as_str())?;
-    Ok(text)
+    Text::of(alloc, written.as_str())
 }
 
 fn trip(alloc: Global, k: usize) -> Result<TripDescriptor, AllocError>

@@ -9,10 +9,10 @@ use Rattle.jiff_tz.specs.declared.timezone.TimeZone.{TimeZone as PlainZone}
 use Rattle.timetable.specs.Maps.{Text}
 use Rattle.timetable.specs.Timetables.{Tables, trip_times}
 use Rattle.timetable.specs.Times.{keyed}
-use Rattle.timetable.specs.declared.stop_time.StopTime.{StopTime}
-use Rattle.timetable.specs.declared.frequency.Frequency.{Frequency}
-use Rattle.timetable.specs.declared.grouped.Only.{Only}
-use Rattle.timetable.specs.declared.trip.Trip.{Trip}
+use Rattle.timetable.specs.declared.StopTime.{StopTime}
+use Rattle.timetable.specs.declared.Frequency.{Frequency}
+use Rattle.timetable.specs.declared.Only.{Only}
+use Rattle.timetable.specs.declared.Trip.{Trip}
 use Rattle.feed_values.specs.declared.trip_descriptor.TripDescriptor.{TripDescriptor}
 use Rattle.rt_day.specs.Time.{time_of}
 use Rattle.trip_calendar.specs.Services.{runs}

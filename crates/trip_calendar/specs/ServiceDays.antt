@@ -8,8 +8,8 @@ use Rattle.feed_values.specs.declared.trip_descriptor.TripDescriptor.{TripDescri
 use Rattle.jiff_tz.specs.declared.timezone.TimeZone.{TimeZone as PlainZone}
 use Rattle.timetable.specs.Maps.{Text}
 use Rattle.timetable.specs.Timetables.{Tables}
-use Rattle.timetable.specs.declared.grouped.Only.{Only}
-use Rattle.timetable.specs.declared.trip.Trip.{Trip}
+use Rattle.timetable.specs.declared.Only.{Only}
+use Rattle.timetable.specs.declared.Trip.{Trip}
 use Rattle.trip_calendar.specs.declared.candidate.Candidate.{Candidate}
 use Rattle.trip_calendar.specs.Services.{runs}
 use Rattle.trip_calendar.specs.Trips.{first_run}

@@ -4,7 +4,7 @@ use Rattle.std.specs.FinMap.{get}
 use Rattle.jiff_core.specs.Calendar.{weekday_number}
 use Rattle.timetable.specs.Maps.{Text}
 use Rattle.timetable.specs.Timetables.{Tables}
-use Rattle.timetable.specs.declared.service_row.ServiceRow.{ServiceRow}
+use Rattle.timetable.specs.declared.ServiceRow.{ServiceRow}
 
 -- the bit of a weekday, where Monday is bit 0, is 1
 abbrev pub has_weekday : (weekdays weekday : ℕ) → Bool

@@ -6,8 +6,8 @@ use Rattle.std.specs.FinMap.{get, entries}
 use Rattle.rt_day.specs.Time.{time_of}
 use Rattle.timetable.specs.Maps.{Text}
 use Rattle.timetable.specs.Timetables.{Tables, trip_times}
-use Rattle.timetable.specs.declared.frequency.Frequency.{Frequency}
-use Rattle.timetable.specs.declared.stop_time.StopTime.{StopTime}
+use Rattle.timetable.specs.declared.Frequency.{Frequency}
+use Rattle.timetable.specs.declared.StopTime.{StopTime}
 
 -- the first time that is given, in the order of events: a stop's arrival, then its departure, then the next stop's
 abbrev pub first_given : List StopTime → Option ℕ

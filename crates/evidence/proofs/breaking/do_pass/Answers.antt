@@ -1,6 +1,6 @@
 use Rattle.std.proofs.Common.{arith, ◌<◌, ◌∙◌, ap, length}
 use Rattle.std.proofs.lemmas.List.{length-set}
-use Rattle.rule_core.specs.declared.fact.Fact.{Fact}
+use Rattle.rule_table.specs.declared.fact.Fact.{Fact}
 use Rattle.evidence.proofs.Forms.{facts_more}
 use Rattle.evidence.proofs.breaking.do_pass.Goals as goal
 

@@ -1,6 +1,6 @@
 use Rattle.std.proofs.Common.{◌≡◌, ◌++◌, take, drop, map, length}
 use Rattle.feed_values.specs.Cells.{cell_value}
-use Rattle.rule_core.specs.Cited.{values_of}
+use Rattle.rule_table.specs.Cited.{values_of}
 use Rattle.evidence.proofs.breaking.do_pass.Given as goal
 
 -- the cells so far and the values of the facts that are left are the values of all facts

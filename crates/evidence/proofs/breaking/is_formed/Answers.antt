@@ -1,5 +1,5 @@
 use Rattle.std.proofs.Common.{[]}
-use Rattle.rule_core.specs.Asked.{place_value}
+use Rattle.rule_table.specs.Asked.{place_value}
 use Rattle.evidence.proofs.Forms.{formed_length}
 use Rattle.evidence.proofs.breaking.is_formed.Goals as goal
 

@@ -1,7 +1,7 @@
 use Rattle.std.proofs.Common.{◌↔◌, [], take, drop, map}
 use Rattle.feed_values.specs.Cells.{cell_value}
-use Rattle.rule_core.specs.Asked.{place_value}
-use Rattle.rule_core.specs.Broken.{IsFormed}
+use Rattle.rule_table.specs.Asked.{place_value}
+use Rattle.rule_table.specs.Broken.{IsFormed}
 use Rattle.evidence.proofs.breaking.is_formed.Given as goal
 
 -- whether all facts are formed is told by those that are left

@@ -1,4 +1,4 @@
-use Rattle.timetable.specs.Records.{records_of}
+use Rattle.csv_records.specs.Records.{records_of}
 use Rattle.feed_list.proofs.ReadFaults.{no_read_fault}
 use Rattle.feed_list.proofs.list.read_list.Goals as goal
 

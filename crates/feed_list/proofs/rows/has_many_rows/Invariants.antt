@@ -1,5 +1,5 @@
 use Rattle.std.proofs.Common.{◌≡◌, ◌+◌, length}
-use Rattle.timetable.specs.Records.{records_of}
+use Rattle.csv_records.specs.Records.{records_of}
 use Rattle.feed_list.proofs.rows.has_many_rows.Given as goal
 
 -- the rows so far and those that are left are all

@@ -1,5 +1,5 @@
 use Rattle.std.proofs.Common.{◌≤◌, ◌∙◌, length, sym}
-use Rattle.timetable.specs.Records.{records_of}
+use Rattle.csv_records.specs.Records.{records_of}
 use Rattle.feed_list.specs.Lists.{row_limit}
 use Rattle.feed_list.proofs.Lists.{few_records, read_within_limits}
 use Rattle.feed_list.proofs.rows.list_of.Goals as goal

@@ -1,6 +1,6 @@
 use Rattle.std.proofs.Common.{◌≡◌, ◌+◌, ◌∙◌, ◌∷◌, List, length, sym, ap, arith}
 use Rattle.csv.specs.Records.{fields_of}
-use Rattle.timetable.specs.Records.{Record}
+use Rattle.csv_records.specs.Records.{Record}
 use Rattle.feed_list.specs.Lists.{rows_from, with_front}
 use Rattle.feed_list.proofs.Lists.{row_read}
 use Rattle.feed_list.proofs.rows.read_rows.Goals as goal

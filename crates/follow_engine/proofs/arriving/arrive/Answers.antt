@@ -1,8 +1,8 @@
 use Rattle.std.proofs.Common.{◌≡◌, ◌<◌, List, Option, length, ap, ◌∙◌, sym, subst, refl, None, Some, get_or, slice_set}
 use Rattle.std.proofs.lemmas.List.{get_or_default}
-use Rattle.rule_core.specs.declared.kind.Kind.TheVariants.{TripUpdate, Vehicle}
-use Rattle.rule_core.specs.Changed.{changed_rows, differ}
-use Rattle.rule_core.specs.Pairs.{any_row}
+use Rattle.rule_table.specs.declared.kind.Kind.TheVariants.{TripUpdate, Vehicle}
+use Rattle.rule_history.specs.Changed.{changed_rows, differ}
+use Rattle.rule_table.specs.Pairs.{any_row}
 use Rattle.engine_laws.specs.HeldFeeds.{HeldFeed}
 use Rattle.follow_engine.specs.declared.arrival.Arrival.{Arrival}
 use Rattle.follow_engine.specs.Arrived.{HasCome, with_last}

@@ -1,5 +1,5 @@
 use Rattle.std.proofs.Common.{sym, subst}
-use Rattle.rule_core.specs.Changed.{changed_rows}
+use Rattle.rule_history.specs.Changed.{changed_rows}
 use Rattle.follow_engine.specs.Arrived.{with_last}
 use Rattle.follow_engine.specs.GivesIds.{GiveIds}
 use Rattle.follow_engine.specs.Rooms.{held}

@@ -1,5 +1,5 @@
 use Rattle.std.proofs.Common.{ap, ◌∙◌, sym, subst, refl, Some, None, []}
-use Rattle.rule_core.specs.Changed.{changed_rows}
+use Rattle.rule_history.specs.Changed.{changed_rows}
 use Rattle.follow_engine.specs.Arrived.{IsSettled, with_last}
 use Rattle.follow_engine.specs.GivesIds.{GiveIds}
 use Rattle.follow_engine.specs.Rooms.{held}

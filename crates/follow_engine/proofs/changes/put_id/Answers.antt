@@ -1,5 +1,5 @@
 use Rattle.std.proofs.Common.{◌||◌, ap, ◌∙◌, sym, bytes_eq, option_copied}
-use Rattle.rule_core.specs.Pairs.{is_id}
+use Rattle.rule_table.specs.Pairs.{is_id}
 use Rattle.follow_engine.specs.Changes.{has_text}
 use Rattle.follow_engine.proofs.TextSets.{text-put}
 use Rattle.follow_engine.proofs.changes.put_id.Goals as goal

@@ -1,7 +1,7 @@
 use Rattle.std.proofs.Common.{◌≡◌, ◌+◌, ◌||◌}
-use Rattle.rule_core.specs.Changed.{count_of}
-use Rattle.rule_core.specs.Groups.{Each}
-use Rattle.rule_core.specs.History.{Keyed, entities_in}
+use Rattle.rule_history.specs.Changed.{count_of}
+use Rattle.rule_table.specs.Groups.{Each}
+use Rattle.rule_history.specs.History.{Keyed, entities_in}
 use Rattle.follow_engine.specs.Counted.{is_fresh, is_bounded, concerns}
 use Rattle.follow_engine.specs.Seated.{IsSeat, keyed_seats}
 use Rattle.follow_engine.proofs.counting.count_entities.Given as goal

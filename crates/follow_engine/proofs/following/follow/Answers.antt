@@ -1,5 +1,5 @@
 use Rattle.std.proofs.Common.{◌∙◌, subst}
-use Rattle.rule_core.specs.Answered.{tables_of}
+use Rattle.rule_history.specs.Answered.{tables_of}
 use Rattle.follow_engine.specs.Deltas.{delta_value}
 use Rattle.follow_engine.specs.Followed.{IsFollowed}
 use Rattle.follow_engine.specs.Rooms.{feeds_of}

@@ -1,7 +1,7 @@
 use Rattle.std.proofs.Common.{◌≡◌, ℕ, ◌+◌, ap, ◌∙◌, subst, refl, arith, List, [], Option, ◌++◌}
 use Rattle.timetable.specs.Timetables.{Tables}
 use Rattle.engine_laws.specs.HeldFeeds.{feed_at, entities_found, rows_held}
-use Rattle.rule_core.specs.Standing.{Standing, Spot}
+use Rattle.rule_history.specs.Standing.{Standing, Spot}
 use Rattle.follow_engine.specs.declared.delta.Opened.{Opened}
 use Rattle.follow_engine.specs.declared.delta.Closed.{Closed}
 use Rattle.follow_engine.specs.Deltas.{all_opened, all_closed}

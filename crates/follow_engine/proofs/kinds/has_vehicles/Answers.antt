@@ -1,7 +1,7 @@
 use Rattle.std.proofs.Common.{ap, ◌∙◌}
-use Rattle.rule_core.specs.declared.kind.Kind.TheVariants.{Vehicle}
-use Rattle.rule_core.specs.Pairs.{any_row}
-use Rattle.rule_core.specs.History.{entities_in}
+use Rattle.rule_table.specs.declared.kind.Kind.TheVariants.{Vehicle}
+use Rattle.rule_table.specs.Pairs.{any_row}
+use Rattle.rule_history.specs.History.{entities_in}
 use Rattle.judging.specs.Judged.{seat_rows}
 use Rattle.follow_engine.specs.Seated.{Seats}
 use Rattle.follow_engine.specs.Rowed.{room_rows, seats_values}

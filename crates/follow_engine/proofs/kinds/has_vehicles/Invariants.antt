@@ -1,6 +1,6 @@
 use Rattle.std.proofs.Common.{◌≡◌}
-use Rattle.rule_core.specs.declared.kind.Kind.TheVariants.{Vehicle}
-use Rattle.rule_core.specs.Pairs.{any_row}
+use Rattle.rule_table.specs.declared.kind.Kind.TheVariants.{Vehicle}
+use Rattle.rule_table.specs.Pairs.{any_row}
 use Rattle.judging.specs.Judged.{seat_rows}
 use Rattle.follow_engine.specs.Rowed.{room_rows, seats_values}
 use Rattle.follow_engine.proofs.kinds.has_vehicles.Given as goal

@@ -1,6 +1,6 @@
 use Rattle.std.proofs.Common.{◌≡◌, ◌||◌, drop}
-use Rattle.rule_core.specs.declared.kind.Kind.TheVariants.{TripUpdate, Vehicle}
-use Rattle.rule_core.specs.Pairs.{any_row}
+use Rattle.rule_table.specs.declared.kind.Kind.TheVariants.{TripUpdate, Vehicle}
+use Rattle.rule_table.specs.Pairs.{any_row}
 use Rattle.follow_engine.specs.Rooms.{feeds_of}
 use Rattle.follow_engine.specs.Rowed.{all_rows}
 use Rattle.follow_engine.proofs.kinds.kinds_of.Given as goal

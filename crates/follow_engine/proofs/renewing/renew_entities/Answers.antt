@@ -3,11 +3,11 @@ use Rattle.std.specs.List.{flat_map}
 use Rattle.std.specs.BTreeMap.{insert_entry}
 use Rattle.std.specs.Map.Iter.{deref_pair}
 use Rattle.std.proofs.lemmas.Map.Iter.{rest_all}
-use Rattle.rule_core.specs.Answered.{tables_of}
-use Rattle.rule_core.specs.Groups.{Each}
-use Rattle.rule_core.specs.History.{ordered_after}
-use Rattle.rule_core.specs.Order.{key_cmp}
-use Rattle.rule_core.specs.Standing.{opened}
+use Rattle.rule_history.specs.Answered.{tables_of}
+use Rattle.rule_table.specs.Groups.{Each}
+use Rattle.rule_history.specs.History.{ordered_after}
+use Rattle.rule_table.specs.Order.{key_cmp}
+use Rattle.rule_history.specs.Standing.{opened}
 use Rattle.engine_laws.specs.Order.{found_cmp, Rises}
 use Rattle.engine_laws.specs.Standings.{findings_of, renewed}
 use Rattle.engine_laws.specs.HeldFeeds.{KeyedLists, list_under, renewed_lists}

@@ -1,9 +1,9 @@
 use Rattle.std.proofs.Common.{◌≡◌, ◌++◌, Some}
 use Rattle.std.specs.List.{flat_map}
-use Rattle.rule_core.specs.Answered.{tables_of}
-use Rattle.rule_core.specs.Groups.{Each}
-use Rattle.rule_core.specs.History.{ordered_after}
-use Rattle.rule_core.specs.Standing.{opened}
+use Rattle.rule_history.specs.Answered.{tables_of}
+use Rattle.rule_table.specs.Groups.{Each}
+use Rattle.rule_history.specs.History.{ordered_after}
+use Rattle.rule_history.specs.Standing.{opened}
 use Rattle.engine_laws.specs.Order.{found_cmp, Rises}
 use Rattle.engine_laws.specs.Standings.{findings_of}
 use Rattle.engine_laws.specs.HeldFeeds.{entities_found, list_under, renewed_lists}

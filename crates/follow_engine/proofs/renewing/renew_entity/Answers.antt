@@ -1,7 +1,7 @@
 use Rattle.std.proofs.Common.{ap, ◌∙◌, sym, subst, None, false, List}
 use Rattle.feed_values.specs.Views.{entity_value, feed_header_value}
-use Rattle.rule_core.specs.Answered.{tables_of}
-use Rattle.rule_core.specs.Found.{Found}
+use Rattle.rule_history.specs.Answered.{tables_of}
+use Rattle.rule_table.specs.Found.{Found}
 use Rattle.engine_laws.specs.Order.{found_cmp, Rises}
 use Rattle.engine_laws.specs.Standings.{renewed}
 use Rattle.follow_engine.specs.Found.{found_at}

@@ -1,5 +1,5 @@
 use Rattle.std.proofs.Common.{sym, subst, List}
-use Rattle.rule_core.specs.Found.{Found}
+use Rattle.rule_table.specs.Found.{Found}
 use Rattle.engine_laws.specs.Order.{found_cmp, Rises}
 use Rattle.engine_laws.proofs.Ascending.{head_ascends}
 use Rattle.follow_engine.specs.Rooms.{IsInOrder}

@@ -1,6 +1,6 @@
 use Rattle.std.proofs.Common.{◌≡◌, ◌++◌}
 use Rattle.std.specs.List.{flat_map}
-use Rattle.rule_core.specs.Standing.{closed}
+use Rattle.rule_history.specs.Standing.{closed}
 use Rattle.engine_laws.specs.Standings.{findings_of}
 use Rattle.engine_laws.specs.HeldFeeds.{list_under}
 use Rattle.follow_engine.specs.Deltas.{all_closed}

@@ -1,5 +1,5 @@
 use Rattle.std.proofs.Common.{ap, ◌∙◌, ◌++◌, ◌+◌}
-use Rattle.rule_core.specs.Answered.{tables_of}
+use Rattle.rule_history.specs.Answered.{tables_of}
 use Rattle.engine_laws.specs.HeldFeeds.{HeldFeed, opened_in, closed_in}
 use Rattle.follow_engine.specs.Deltas.{all_opened, all_closed}
 use Rattle.follow_engine.specs.Rooms.{held, next_feed}

@@ -1,5 +1,5 @@
 use Rattle.std.proofs.Common.{◌≡◌, [], drop}
-use Rattle.rule_core.specs.History.{ordered_after}
+use Rattle.rule_history.specs.History.{ordered_after}
 use Rattle.judging.specs.Seats.{seat_values}
 use Rattle.follow_engine.specs.Rooms.{feeds_of}
 use Rattle.follow_engine.specs.Rowed.{all_values}

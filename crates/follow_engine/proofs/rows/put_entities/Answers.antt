@@ -1,5 +1,5 @@
 use Rattle.std.proofs.Common.{ap, ◌∙◌, refl}
-use Rattle.rule_core.specs.History.{ordered_after}
+use Rattle.rule_history.specs.History.{ordered_after}
 use Rattle.judging.specs.Seats.{seat_values}
 use Rattle.follow_engine.specs.Seated.{Seats}
 use Rattle.follow_engine.specs.Rowed.{values_of, seats_values}

@@ -2,9 +2,9 @@ use Rattle.std.proofs.Common.{◌≡◌, ◌+◌, ap, ◌∙◌, sym, subst, con
 use Rattle.std.specs.BTreeMap.{insert_entry}
 use Rattle.feed_values.specs.Snapshot.{entity_payloads, entity_of}
 use Rattle.feed_values.specs.Views.{entity_value}
-use Rattle.rule_core.specs.Groups.{Each}
-use Rattle.rule_core.specs.History.{id_of, count_id}
-use Rattle.rule_core.specs.Order.{key_cmp}
+use Rattle.rule_table.specs.Groups.{Each}
+use Rattle.rule_history.specs.History.{id_of, count_id}
+use Rattle.rule_table.specs.Order.{key_cmp}
 use Rattle.judging.specs.Seats.{count_in}
 use Rattle.follow_engine.specs.declared.seat.Seat.{Seat}
 use Rattle.follow_engine.specs.Seated.{IsSeat}

@@ -1,7 +1,7 @@
 use Rattle.std.proofs.Common.{◌≡◌, ℕ, List, [], take, drop, length}
 use Rattle.feed_values.specs.Snapshot.{entity_payloads}
-use Rattle.rule_core.specs.Groups.{Each}
-use Rattle.rule_core.specs.History.{keyed_after, ordered_after, count_id}
+use Rattle.rule_table.specs.Groups.{Each}
+use Rattle.rule_history.specs.History.{keyed_after, ordered_after, count_id}
 use Rattle.judging.specs.Seats.{count_in}
 use Rattle.follow_engine.specs.Seated.{IsSeat, keyed_seats}
 use Rattle.follow_engine.proofs.seating.seat_entities.Given as goal

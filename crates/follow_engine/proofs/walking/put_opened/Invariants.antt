@@ -1,5 +1,5 @@
 use Rattle.std.proofs.Common.{◌≡◌, ◌≤◌, ◌++◌, drop, length}
-use Rattle.rule_core.specs.Standing.{opened}
+use Rattle.rule_history.specs.Standing.{opened}
 use Rattle.engine_laws.specs.Order.{found_cmp, Rises}
 use Rattle.engine_laws.specs.Standings.{findings_of}
 use Rattle.follow_engine.specs.Deltas.{all_opened}

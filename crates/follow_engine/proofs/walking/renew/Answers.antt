@@ -1,5 +1,5 @@
 use Rattle.std.proofs.Common.{ap, ◌∙◌, subst, ◌∷◌, ◌++◌, [], List, unwrap_or}
-use Rattle.rule_core.specs.Found.{Found}
+use Rattle.rule_table.specs.Found.{Found}
 use Rattle.engine_laws.specs.Order.{found_cmp, Rises}
 use Rattle.follow_engine.proofs.Walked.{renew_step, left_rises}
 use Rattle.follow_engine.proofs.walking.renew.Goals as goal

@@ -1,6 +1,6 @@
 use Rattle.std.proofs.Common.{◌||◌, ◌∙◌, ap}
 use Rattle.std.specs.BTreeSet.{contains}
-use Rattle.rule_core.specs.Order.{key_cmp}
+use Rattle.rule_table.specs.Order.{key_cmp}
 use Rattle.history_rules.specs.StampGroups.{in_groups}
 use Rattle.history_rules.proofs.StampGroups.{groups-between}
 use Rattle.history_rules.proofs.stamp_groups.put_between.Goals as goal

@@ -1,10 +1,10 @@
 use Rattle.std.proofs.Common.{◌≡◌, ◌||◌}
 use Rattle.std.specs.BTreeSet.{contains}
 use Rattle.std.specs.List.{list_any}
-use Rattle.rule_core.specs.Order.{key_cmp}
+use Rattle.rule_table.specs.Order.{key_cmp}
 use Rattle.history_rules.specs.StampGroups.{between, in_groups}
 use Rattle.history_rules.specs.Stamps.{stamps_of}
-use Rattle.rule_core.specs.declared.key.EntityKey.{EntityKey}
+use Rattle.rule_table.specs.declared.key.EntityKey.{EntityKey}
 use Rattle.history_rules.proofs.stamp_groups.put_between.Given as goal
 
 abbrev pub invariant-loop-group : goal.invariant-loop-group

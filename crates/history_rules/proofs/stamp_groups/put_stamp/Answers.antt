@@ -1,7 +1,7 @@
 use Rattle.std.proofs.Common.{true, Some, cond, ◌∙◌, ap, rules}
 use Rattle.std.specs.BTreeMap.{is_at, get}
 use Rattle.std.specs.List.{list_any}
-use Rattle.rule_core.specs.Order.{key_cmp}
+use Rattle.rule_table.specs.Order.{key_cmp}
 use Rattle.history_rules.specs.StampGroups.{moment_cmp, key_in}
 use Rattle.history_rules.proofs.StampGroups.{stamp_put}
 use Rattle.history_rules.proofs.stamp_groups.put_stamp.Goals as goal

@@ -1,6 +1,6 @@
 use Rattle.std.proofs.Common.{false, cond, ◌∙◌, ap, rules}
 use Rattle.std.specs.BTreeMap.{is_at}
-use Rattle.rule_core.specs.Order.{key_cmp}
+use Rattle.rule_table.specs.Order.{key_cmp}
 use Rattle.history_rules.specs.StampGroups.{key_in}
 use Rattle.history_rules.proofs.StampGroups.{stamp_taken}
 use Rattle.history_rules.proofs.stamp_groups.take_key.Goals as goal

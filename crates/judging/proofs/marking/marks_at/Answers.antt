@@ -1,9 +1,9 @@
 use Rattle.std.proofs.Common.{◌≡◌, ◌∙◌, [], rules, subst, sym}
 use Rattle.feed_values.specs.Views.{entity_value, feed_header_value}
-use Rattle.rule_core.specs.Answered.{tables_of}
-use Rattle.rule_core.specs.Clear.{AreClear}
-use Rattle.rule_core.specs.Judged.{found_all}
-use Rattle.rule_core.specs.Marked.{marked}
+use Rattle.rule_history.specs.Answered.{tables_of}
+use Rattle.rule_clear.specs.Clear.{AreClear}
+use Rattle.rule_table.specs.Judged.{found_all}
+use Rattle.rule_table.specs.Marked.{marked}
 use Rattle.judging.specs.Judged.{first_answer, first_heads}
 use Rattle.judging.proofs.Joined.{local_same}
 use Rattle.judging.proofs.marking.marks_at.Goals as goal

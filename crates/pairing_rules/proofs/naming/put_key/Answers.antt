@@ -1,7 +1,7 @@
 use Rattle.std.proofs.Common.{◌||◌, sym, ◌∙◌, ap}
 use Rattle.std.specs.Prelude.{option_map}
 use Rattle.std.specs.BTreeSet.{contains}
-use Rattle.rule_core.specs.Order.{key_cmp}
+use Rattle.rule_table.specs.Order.{key_cmp}
 use Rattle.pairing_rules.specs.Rows.{held_row}
 use Rattle.pairing_rules.specs.Slots.{is_key}
 use Rattle.pairing_rules.proofs.SharedKeys.{key-put}

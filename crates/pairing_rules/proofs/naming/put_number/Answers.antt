@@ -5,8 +5,8 @@ use Rattle.std.specs.BTreeMap.Range.{range_contains}
 use Rattle.std.specs.declared.ops.Bound.TheVariants.{Included, Excluded}
 use Rattle.std.specs.Map.Iter.{deref}
 use Rattle.std.proofs.lemmas.Map.Iter.{rest_more}
-use Rattle.rule_core.specs.Order.{key_cmp}
-use Rattle.rule_core.specs.declared.kind.Kind.TheVariants.{TripUpdate}
+use Rattle.rule_table.specs.Order.{key_cmp}
+use Rattle.rule_table.specs.declared.kind.Kind.TheVariants.{TripUpdate}
 use Rattle.pairing_rules.specs.Slots.{entry_cmp, low}
 use Rattle.pairing_rules.proofs.SharedKeys.{range-keys, key-step}
 use Rattle.pairing_rules.proofs.naming.put_number.Goals as goal

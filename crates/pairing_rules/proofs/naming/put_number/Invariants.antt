@@ -1,8 +1,8 @@
 use Rattle.std.proofs.Common.{◌≡◌, ◌||◌}
 use Rattle.std.specs.BTreeSet.{contains}
 use Rattle.std.specs.List.{list_any}
-use Rattle.rule_core.specs.Order.{key_cmp}
-use Rattle.rule_core.specs.declared.key.EntityKey.{EntityKey}
+use Rattle.rule_table.specs.Order.{key_cmp}
+use Rattle.rule_table.specs.declared.key.EntityKey.{EntityKey}
 use Rattle.pairing_rules.specs.Slots.{seen, has_key, has_key_at}
 use Rattle.pairing_rules.proofs.naming.put_number.Given as goal
 

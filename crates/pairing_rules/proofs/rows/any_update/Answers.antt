@@ -1,7 +1,7 @@
 use Rattle.std.proofs.Common.{◌∙◌}
 use Rattle.std.specs.BTreeMap.{keys}
-use Rattle.rule_core.specs.Kinds.{same_kind}
-use Rattle.rule_core.specs.declared.kind.Kind.TheVariants.{TripUpdate}
+use Rattle.rule_table.specs.Kinds.{same_kind}
+use Rattle.rule_table.specs.declared.kind.Kind.TheVariants.{TripUpdate}
 use Rattle.pairing_rules.proofs.Ends.{all_after, told_by}
 use Rattle.pairing_rules.proofs.rows.any_update.Goals as goal
 

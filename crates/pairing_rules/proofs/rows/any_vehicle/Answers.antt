@@ -1,7 +1,7 @@
 use Rattle.std.proofs.Common.{◌∙◌}
 use Rattle.std.specs.BTreeMap.{keys}
-use Rattle.rule_core.specs.Kinds.{same_kind}
-use Rattle.rule_core.specs.declared.kind.Kind.TheVariants.{Vehicle}
+use Rattle.rule_table.specs.Kinds.{same_kind}
+use Rattle.rule_table.specs.declared.kind.Kind.TheVariants.{Vehicle}
 use Rattle.pairing_rules.proofs.Ends.{all_before, told_by}
 use Rattle.pairing_rules.proofs.rows.any_vehicle.Goals as goal
 

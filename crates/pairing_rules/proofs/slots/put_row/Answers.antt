@@ -2,7 +2,7 @@ use Rattle.std.proofs.Common.{◌≡◌, ◌==◌, ◌&&◌, cond, ◌∙◌, ap
 use Rattle.std.specs.BTreeSet.{insert_key}
 use Rattle.std.specs.Prelude.{map}
 use Rattle.std.specs.List.{filter}
-use Rattle.rule_core.specs.Kinds.{same_kind}
+use Rattle.rule_table.specs.Kinds.{same_kind}
 use Rattle.pairing_rules.specs.Rows.{held_row}
 use Rattle.pairing_rules.specs.Slots.{seen_at, seen, seen_cmp, shown, at_place}
 use Rattle.pairing_rules.proofs.Places.{place-put}

@@ -3,7 +3,7 @@ use Rattle.std.specs.BTreeMap.{is_at}
 use Rattle.std.specs.Set.{remove_key}
 use Rattle.std.specs.Prelude.{map}
 use Rattle.std.specs.List.{filter}
-use Rattle.rule_core.specs.Kinds.{same_kind}
+use Rattle.rule_table.specs.Kinds.{same_kind}
 use Rattle.pairing_rules.specs.Slots.{seen_at, seen, seen_cmp, at_place}
 use Rattle.pairing_rules.proofs.Places.{place-taken}
 use Rattle.pairing_rules.proofs.slots.take_row.Goals as goal

@@ -1,5 +1,5 @@
 use Rattle.std.proofs.Common.{[]}
-use Rattle.rule_core.specs.Rows.{cites_at}
+use Rattle.rule_table.specs.Rows.{cites_at}
 use Rattle.rt_report.proofs.Ranges.{formed_in_range}
 use Rattle.rt_report.proofs.finding.push_on_header.Goals as goal
 

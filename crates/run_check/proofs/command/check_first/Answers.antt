@@ -1,7 +1,7 @@
 use Rattle.std.proofs.Common.{◌∷◌, [], refl, subst}
 use Rattle.std.specs.List.{Contains}
 use Rattle.rt_outside.specs.Store.{contents_told}
-use Rattle.rule_core.specs.Answered.{tables_of}
+use Rattle.rule_history.specs.Answered.{tables_of}
 use Rattle.run_base.specs.Carried.{CarriesOut, exactly}
 use Rattle.run_snapshot.specs.Reports.{accepted_report}
 use Rattle.run_base.specs.Outside.{outside}

@@ -4,7 +4,7 @@ use Rattle.rt_outside.proofs.Appends.{AppendsPrefix-nothing}
 use Rattle.rt_outside.specs.Sink.{AppendsPrefix}
 use Rattle.rt_outside.specs.Store.{contents_told}
 use Rattle.feed_list.specs.Lists.{IsWithinLimits}
-use Rattle.rule_core.specs.Answered.{tables_of}
+use Rattle.rule_history.specs.Answered.{tables_of}
 use Rattle.run_base.specs.Carried.{CarriesOut, exactly}
 use Rattle.run_rows.specs.declared.telling.Telling.TheVariants.{Counts}
 use Rattle.run_rows.specs.Rows.{paths_of, all_rows}

@@ -1,5 +1,5 @@
 use Rattle.std.specs.List.{Contains}
-use Rattle.rule_core.specs.Answered.{tables_of}
+use Rattle.rule_history.specs.Answered.{tables_of}
 use Rattle.run_rows.specs.declared.telling.Telling.TheVariants.{Counts}
 use Rattle.run_rows.specs.Rows.{paths_of, all_rows}
 use Rattle.run_check.specs.Check.{checked}

@@ -2,7 +2,7 @@ use Rattle.std.proofs.Common.{◌≡◌, ◌∙◌, [], arith, subst, sym, ap, r
 use Rattle.std.specs.Io.KnownBytes.{append_known}
 use Rattle.rt_outside.proofs.Appends.{AppendsPrefix-whole}
 use Rattle.rt_outside.specs.Sink.{AppendsPrefix}
-use Rattle.rule_core.specs.Standing.{Standing}
+use Rattle.rule_history.specs.Standing.{Standing}
 use Rattle.follow_engine.specs.Engines.{engine_data}
 use Rattle.rt_report.specs.FindingLines.{all_text, any_error, standing_text}
 use Rattle.run_check.proofs.Standings.{Waits, error_done, error_more, handed_out, none_left, waits_cut, waits_done, waits_more, waits_moved, waits_none, waits_part}

@@ -3,7 +3,7 @@ use Rattle.std.specs.FinMap.{get}
 use Rattle.std.specs.List.{Contains}
 use Rattle.rt_outside.specs.Store.{contents_told}
 use Rattle.feed_list.specs.Lists.{list_in}
-use Rattle.rule_core.specs.Answered.{tables_of}
+use Rattle.rule_history.specs.Answered.{tables_of}
 use Rattle.run_base.specs.Carried.{CarriesOut, exactly}
 use Rattle.run_rows.specs.declared.telling.Telling.TheVariants.{Changes}
 use Rattle.run_follow.specs.Follow.{IsFollowed, list_report, followed}

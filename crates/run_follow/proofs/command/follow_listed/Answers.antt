@@ -1,7 +1,7 @@
 use Rattle.std.proofs.Common.{refl}
 use Rattle.std.specs.List.{Contains}
 use Rattle.rt_outside.specs.Store.{contents_told}
-use Rattle.rule_core.specs.Answered.{tables_of}
+use Rattle.rule_history.specs.Answered.{tables_of}
 use Rattle.run_rows.specs.declared.telling.Telling.TheVariants.{Changes}
 use Rattle.run_rows.specs.Rows.{paths_of, all_rows}
 use Rattle.run_follow.specs.Follow.{followed}

@@ -1,7 +1,8 @@
 use Rattle.std.proofs.Common.{◌+◌, ap, ◌∙◌, sym, subst, cond, bytes_eq, map, take, arith}
 use Rattle.std.specs.Io.KnownBytes.{append_known}
 use Rattle.feed_values.specs.Views.{entity_value}
-use Rattle.judging.specs.Seats.{count_id, count_in}
+use Rattle.judging.specs.Seats.{count_id}
+use Rattle.rule_table.specs.Counts.{count_in}
 use Rattle.judging.proofs.Counted.{counted_next}
 use Rattle.rt_outside.specs.Sink.{AppendsPrefix}
 use Rattle.timetable.specs.Lookups.{tables_in}

@@ -1,6 +1,7 @@
 use Rattle.std.proofs.Common.{◌≡◌, ◌≤◌, ℕ, List, map, take}
 use Rattle.feed_values.specs.Views.{entity_value}
-use Rattle.judging.specs.Seats.{count_id, count_in}
+use Rattle.judging.specs.Seats.{count_id}
+use Rattle.rule_table.specs.Counts.{count_in}
 use Rattle.timetable.specs.Lookups.{tables_in}
 use Rattle.trip_calendar.specs.Zones.{zone_of}
 use Rattle.run_predict.proofs.Texts.{SoFar}

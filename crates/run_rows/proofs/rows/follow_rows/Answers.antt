@@ -3,7 +3,7 @@ use Rattle.std.specs.Io.KnownBytes.{append_known}
 use Rattle.rt_outside.specs.Sink.{AppendsPrefix}
 use Rattle.rt_outside.specs.Store.{contents_told}
 use Rattle.rt_outside.proofs.Appends.{append_known-nil}
-use Rattle.rule_core.specs.Answered.{tables_of}
+use Rattle.rule_history.specs.Answered.{tables_of}
 use Rattle.run_rows.specs.Followed.{IsRowEnd}
 use Rattle.run_base.proofs.Chosen.{all, not_read, rose_later}
 use Rattle.run_rows.proofs.RowByRow.{done_none, done_all, stopped, cut, done_next, within_next, got}

@@ -1,6 +1,6 @@
 use Rattle.std.proofs.Common.{◌≡◌, ◌≤◌}
 use Rattle.rt_outside.specs.Store.{contents_told}
-use Rattle.rule_core.specs.Answered.{tables_of}
+use Rattle.rule_history.specs.Answered.{tables_of}
 use Rattle.run_rows.specs.Followed.{StandsWithin}
 use Rattle.run_rows.proofs.RowByRow.{Done}
 use Rattle.run_rows.proofs.rows.follow_rows.Given as goal

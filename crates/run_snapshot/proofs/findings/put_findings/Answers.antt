@@ -4,8 +4,8 @@ use Rattle.std.specs.List.{flat_map}
 use Rattle.feed_values.specs.Snapshot.{entities_of, header_of}
 use Rattle.rt_outside.specs.Sink.{AppendsPrefix}
 use Rattle.rt_outside.proofs.Appends.{AppendsPrefix-whole}
-use Rattle.rule_core.specs.Answered.{tables_of}
-use Rattle.rule_core.specs.Found.{Found}
+use Rattle.rule_history.specs.Answered.{tables_of}
+use Rattle.rule_table.specs.Found.{Found}
 use Rattle.judging.specs.Judged.{snapshot_found}
 use Rattle.rt_report.specs.FindingLines.{finding_text}
 use Rattle.run_snapshot.proofs.Sent.{sends_all, sends_last}

@@ -2,11 +2,11 @@ use Rattle.std.proofs.Common.{List, sym, subst, arith}
 use Rattle.std.specs.Map.Iter.{deref_pair}
 use Rattle.std.proofs.lemmas.Map.Iter.{rest_more}
 use Rattle.feed_values.specs.Views.{feed_header_value}
-use Rattle.rule_core.specs.Answered.{Heads, tables_of}
-use Rattle.rule_core.specs.Found.{Found}
+use Rattle.rule_history.specs.Answered.{Heads, tables_of}
+use Rattle.rule_table.specs.Found.{Found}
 use Rattle.judging.specs.Whole.{entity_found}
 use Rattle.judging.specs.Judged.{first_heads, found_at_seats}
-use Rattle.kept_rows.specs.Places.{AreWithin, entity_at, placed}
+use Rattle.snapshot_keys.specs.Places.{AreWithin, entity_at, placed}
 use Rattle.run_snapshot.proofs.Sent.{Left, left_all, left_next, left_cut, at_err}
 use Rattle.run_snapshot.proofs.findings.send_entities.Goals as goal
 

@@ -1,13 +1,13 @@
 use Rattle.std.proofs.Common.{◌≡◌, ◌∙◌, List, ap, sym, subst}
 use Rattle.feed_values.specs.Snapshot.{entity_of, entity_payloads}
 use Rattle.feed_values.specs.Views.{entity_value, feed_header_value}
-use Rattle.rule_core.specs.Answered.{Heads, tables_of}
-use Rattle.rule_core.specs.Found.{Found}
-use Rattle.rule_core.specs.Marked.{marked}
+use Rattle.rule_history.specs.Answered.{Heads, tables_of}
+use Rattle.rule_table.specs.Found.{Found}
+use Rattle.rule_table.specs.Marked.{marked}
 use Rattle.judging.specs.Judged.{first_answer, first_heads}
 use Rattle.judging.specs.Whole.{entity_found}
-use Rattle.kept_rows.specs.Places.{entity_at}
-use Rattle.kept_rows.proofs.OneMore.{read_payload}
+use Rattle.snapshot_keys.specs.Places.{entity_at}
+use Rattle.snapshot_keys.proofs.OneMore.{read_payload}
 use Rattle.run_snapshot.specs.Sending.{Sends, SendsPart}
 use Rattle.run_snapshot.proofs.Sent.{at_err, left_all, left_part, more_ok, more_err}
 use Rattle.run_snapshot.proofs.findings.send_entity.Goals as goal

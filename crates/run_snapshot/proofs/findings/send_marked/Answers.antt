@@ -1,8 +1,8 @@
 use Rattle.std.proofs.Common.{◌≡◌, ◌∙◌, ◌++◌, ◌+◌, List, ap, arith, drop, sym, subst}
 use Rattle.feed_values.specs.Views.{entity_value, feed_header_value}
-use Rattle.rule_core.specs.Answered.{tables_of}
-use Rattle.rule_core.specs.Found.{Found}
-use Rattle.rule_core.specs.Marked.{marked}
+use Rattle.rule_history.specs.Answered.{tables_of}
+use Rattle.rule_table.specs.Found.{Found}
+use Rattle.rule_table.specs.Marked.{marked}
 use Rattle.run_snapshot.proofs.Marks.{marked_from}
 use Rattle.judging.specs.Judged.{first_answer}
 use Rattle.run_snapshot.specs.Sending.{Sends, SendsPart}

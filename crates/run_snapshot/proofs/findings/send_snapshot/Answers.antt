@@ -1,7 +1,7 @@
 use Rattle.std.proofs.Common.{◌≡◌, ◌∙◌, ap, sym, subst}
 use Rattle.feed_values.specs.Snapshot.{entities_of, header_of}
 use Rattle.feed_values.specs.Views.{feed_header_value}
-use Rattle.rule_core.specs.Answered.{Heads, tables_of}
+use Rattle.rule_history.specs.Answered.{Heads, tables_of}
 use Rattle.judging.specs.Seats.{Rising, seats}
 use Rattle.judging.specs.Whole.{header_found}
 use Rattle.judging.specs.Judged.{first_heads, seat_rows, found_at_seats}

@@ -1,6 +1,6 @@
 use Rattle.std.proofs.Common.{refl, arith, rules, ◌∷◌, []}
 use Rattle.std.specs.List.{Contains}
-use Rattle.rule_core.specs.Answered.{tables_of}
+use Rattle.rule_history.specs.Answered.{tables_of}
 use Rattle.run_base.specs.Report.{file_report}
 use Rattle.run_base.proofs.Carried.{carried_fault}
 use Rattle.run_base.proofs.Chosen.{carried_put, file_silent}

@@ -1,7 +1,7 @@
 use Rattle.std.proofs.Common.{IfOk}
 use Rattle.rt_outside.specs.Sink.{AppendsPrefix}
 use Rattle.rt_outside.specs.Store.{contents_told}
-use Rattle.rule_core.specs.Answered.{tables_of}
+use Rattle.rule_history.specs.Answered.{tables_of}
 use Rattle.run_base.specs.Carried.{IsPut}
 use Rattle.run_snapshot.specs.Reports.{accepted_report}
 use Rattle.run_snapshot.proofs.Reports.{report_said}

@@ -1,7 +1,7 @@
 use Rattle.std.proofs.Common.{◌∙◌, ap, subst}
 use Rattle.std.specs.Io.KnownBytes.{append_known}
 use Rattle.rt_outside.specs.Sink.{AppendsPrefix}
-use Rattle.rule_core.specs.Answered.{tables_of}
+use Rattle.rule_history.specs.Answered.{tables_of}
 use Rattle.run_snapshot.proofs.Reports.{accepted_status_is, accepted_text_is}
 use Rattle.run_snapshot.proofs.report.put_accepted.Goals as goal
 

@@ -3,7 +3,7 @@ use Rattle.std.specs.Io.KnownBytes.{append_known}
 use Rattle.rt_outside.proofs.Appends.{AppendsPrefix-nothing}
 use Rattle.rt_outside.specs.Sink.{AppendsPrefix}
 use Rattle.rt_outside.specs.Store.{contents_told}
-use Rattle.rule_core.specs.Answered.{tables_of}
+use Rattle.rule_history.specs.Answered.{tables_of}
 use Rattle.trial_feed.specs.Snapshots.{trial_snapshots}
 use Rattle.run_trial.specs.Tried.{IsTrialFile, history_report}
 use Rattle.run_base.specs.Outside.{outside}

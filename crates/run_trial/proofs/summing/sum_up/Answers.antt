@@ -1,4 +1,4 @@
-use Rattle.rule_core.specs.Answered.{tables_of}
+use Rattle.rule_history.specs.Answered.{tables_of}
 use Rattle.trial_feed.specs.Snapshots.{trial_snapshots}
 use Rattle.run_trial.proofs.Trying.{summed_text}
 use Rattle.run_trial.proofs.summing.sum_up.Goals as goal

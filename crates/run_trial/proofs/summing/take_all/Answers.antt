@@ -1,7 +1,7 @@
 use Rattle.std.proofs.Common.{◌≡◌, ◌∙◌, None, sym, subst, arith}
 use Rattle.feed_codec.specs.Refusal.{refusal}
-use Rattle.rule_core.specs.Answered.{tables_of}
-use Rattle.rule_core.specs.Changed.{with}
+use Rattle.rule_history.specs.Answered.{tables_of}
+use Rattle.rule_history.specs.Changed.{with}
 use Rattle.trial_feed.proofs.Taken.{snapshots_are_taken}
 use Rattle.run_trial.specs.Tried.{IsSummedUp, numbered}
 use Rattle.run_trial.proofs.Trying.{trying_all, trying_next, trying_none}

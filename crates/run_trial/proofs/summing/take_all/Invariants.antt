@@ -1,4 +1,4 @@
-use Rattle.rule_core.specs.Answered.{tables_of}
+use Rattle.rule_history.specs.Answered.{tables_of}
 use Rattle.trial_feed.specs.Moving.{IsWithin}
 use Rattle.run_trial.proofs.Trying.{IsTrying}
 use Rattle.run_trial.proofs.summing.take_all.Given as goal

@@ -1,5 +1,5 @@
 use Rattle.std.proofs.Common.{◌≡◌, ◌<◌, ℕ, None, Some, get_or, slice_get, vec_len}
-use Rattle.timetable.specs.Maps.{Text}
+use Rattle.schedule_tables.specs.Maps.{Text}
 use Rattle.timetable.specs.Timetables.{kind_in}
 use Rattle.timetable.proofs.kinds.kinds_by_number.Given as goal
 

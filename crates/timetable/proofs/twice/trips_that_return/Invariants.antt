@@ -1,6 +1,6 @@
 use Rattle.std.proofs.Common.{◌≡◌, ◌<◌, ℕ, false, get_or, vec_len}
-use Rattle.timetable.specs.Maps.{Text}
-use Rattle.timetable.specs.Numbers.{HasNumber}
+use Rattle.schedule_tables.specs.Maps.{Text}
+use Rattle.schedule_tables.specs.Numbers.{HasNumber}
 use Rattle.timetable.specs.Timetables.{trip_times, visits_twice}
 use Rattle.timetable.proofs.twice.trips_that_return.Given as goal
 

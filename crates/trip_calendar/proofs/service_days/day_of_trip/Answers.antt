@@ -2,7 +2,7 @@ use Rattle.std.proofs.Common.{ap, ◌∙◌, subst, option_map, IfOk}
 use Rattle.std.specs.FinMap.{get}
 use Rattle.std.specs.Option.{option_and_then}
 use Rattle.rt_day.specs.Time.{time_of}
-use Rattle.timetable.specs.declared.trip.Trip.{Trip}
+use Rattle.timetable.specs.declared.Trip.{Trip}
 use Rattle.timetable.specs.Lookups.{tables_in}
 use Rattle.trip_calendar.specs.ServiceDays.{IsDated, IsNearest}
 use Rattle.trip_calendar.specs.Zones.{zone_of}

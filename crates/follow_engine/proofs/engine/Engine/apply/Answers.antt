@@ -1,6 +1,6 @@
 use Rattle.std.proofs.Common.{◌<◌, sym, subst}
-use Rattle.rule_core.specs.Answered.{tables_of}
-use Rattle.rule_core.specs.History.{Snapshot}
+use Rattle.rule_history.specs.Answered.{tables_of}
+use Rattle.rule_history.specs.History.{Snapshot}
 use Rattle.follow_engine.specs.Followed.{IsFollowed}
 use Rattle.follow_engine.proofs.engine.Engine.apply.Goals as goal
 

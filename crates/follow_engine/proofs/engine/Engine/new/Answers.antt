@@ -1,5 +1,5 @@
 use Rattle.std.proofs.Common.{sym, subst, refl, map, []}
-use Rattle.rule_core.specs.Answered.{tables_of}
+use Rattle.rule_history.specs.Answered.{tables_of}
 use Rattle.engine_laws.specs.HeldFeeds.{data_of}
 use Rattle.engine_laws.specs.Standings.{StandsFor}
 use Rattle.engine_laws.proofs.Proved.{nothing_stands}

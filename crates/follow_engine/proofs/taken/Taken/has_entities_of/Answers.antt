@@ -1,7 +1,7 @@
 use Rattle.std.proofs.Common.{ap, ◌∙◌, sym, arith}
 use Rattle.std.specs.Prelude.{slice_get}
 use Rattle.feed_values.specs.Snapshot.{entity_payloads}
-use Rattle.rule_core.specs.History.{Snapshot}
+use Rattle.rule_history.specs.History.{Snapshot}
 use Rattle.follow_engine.proofs.Under.{same_end, differ_at, same_next, not_true, not_false}
 use Rattle.follow_engine.proofs.taken.Taken.has_entities_of.Goals as goal
 

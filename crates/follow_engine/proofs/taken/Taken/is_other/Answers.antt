@@ -1,6 +1,6 @@
 use Rattle.std.proofs.Common.{ap, ◌∙◌, sym, option_copied}
 use Rattle.feed_values.specs.Snapshot.{entity_payloads}
-use Rattle.rule_core.specs.History.{Snapshot, entities_in}
+use Rattle.rule_history.specs.History.{Snapshot, entities_in}
 use Rattle.engine_laws.specs.Delta.{is_other}
 use Rattle.follow_engine.specs.Seated.{IsSeat}
 use Rattle.follow_engine.proofs.SeatedNext.{read_payload}

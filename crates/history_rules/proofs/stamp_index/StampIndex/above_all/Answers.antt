@@ -1,6 +1,6 @@
 use Rattle.std.proofs.Common.{◌&&◌, sym, ◌∙◌, ap}
 use Rattle.std.specs.List.{list_any}
-use Rattle.rule_core.specs.Order.{same_key}
+use Rattle.rule_table.specs.Order.{same_key}
 use Rattle.history_rules.specs.Stamps.{is_above, stamps_of}
 use Rattle.history_rules.proofs.StampGroups.{none-above}
 use Rattle.history_rules.proofs.stamp_index.StampIndex.above_all.Goals as goal

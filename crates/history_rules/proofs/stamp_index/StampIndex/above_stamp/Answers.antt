@@ -2,10 +2,10 @@ use Rattle.std.proofs.Common.{◌&&◌, ◌||◌, sym, ◌∙◌, ap}
 use Rattle.std.specs.List.{list_any}
 use Rattle.std.specs.Ordering.{eq_by_cmp}
 use Rattle.std.specs.BTreeMap.{is_at}
-use Rattle.rule_core.specs.Order.{key_cmp, same_key}
+use Rattle.rule_table.specs.Order.{key_cmp, same_key}
 use Rattle.history_rules.specs.Stamps.{is_above, stamps_of}
 use Rattle.history_rules.specs.StampGroups.{between}
-use Rattle.history_rules.proofs.KeyOrder.{same-key}
+use Rattle.rule_table.proofs.SameKeys.{same-key}
 use Rattle.history_rules.proofs.StampGroups.{any-same, between-above, far}
 use Rattle.history_rules.proofs.stamp_index.StampIndex.above_stamp.Goals as goal
 

@@ -1,8 +1,8 @@
 use Rattle.std.proofs.Common.{◌++◌, ap, ◌∙◌}
 use Rattle.std.specs.Option.{option_map, option_copied}
 use Rattle.feed_values.specs.Views.{feed_header_value}
-use Rattle.rule_core.specs.Answered.{Heads, heads_answer}
-use Rattle.rule_core.specs.Judged.{head_found_all}
+use Rattle.rule_table.specs.Answers.{Heads, heads_answer}
+use Rattle.rule_table.specs.Judged.{head_found_all}
 use Rattle.history_rules.specs.Rules.{head_rules}
 use Rattle.judging.proofs.Headed.{headed_all}
 use Rattle.judging.proofs.all_rules.AllRules.judge_header.Goals as goal

@@ -1,9 +1,9 @@
 use Rattle.std.proofs.Common.{◌≡◌, ◌+◌, ◌≤◌, ◌++◌, List, length, subst, OnOk}
 use Rattle.feed_values.specs.Views.{entity_value}
-use Rattle.rule_core.specs.Answered.{tables_of, local_answer}
-use Rattle.rule_core.specs.Found.{Found}
-use Rattle.rule_core.specs.Judged.{found_all}
-use Rattle.rule_core.specs.declared.rule.RuleId.{RuleId}
+use Rattle.rule_history.specs.Answered.{tables_of, local_answer}
+use Rattle.rule_table.specs.Found.{Found}
+use Rattle.rule_table.specs.Judged.{found_all}
+use Rattle.rule_table.specs.declared.rule.RuleId.{RuleId}
 use Rattle.message_rules.specs.Message.{error_rules, other_rules}
 use Rattle.message_rules.proofs.Joined.{found_both}
 use Rattle.message_rules.proofs.group.MessageGroupLocalRule.judge.Goals as goal

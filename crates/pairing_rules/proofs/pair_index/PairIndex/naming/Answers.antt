@@ -4,8 +4,8 @@ use Rattle.std.specs.HashMap.{get_by_text}
 use Rattle.std.specs.List.{list_any}
 use Rattle.std.specs.Ordering.{eq_by_cmp}
 use Rattle.std.specs.BTreeMap.{is_at}
-use Rattle.rule_core.specs.Order.{key_cmp, same_key}
-use Rattle.rule_core.specs.Pairs.{shares}
+use Rattle.rule_table.specs.Order.{key_cmp, same_key}
+use Rattle.rule_table.specs.Pairs.{shares}
 use Rattle.pairing_rules.specs.Rows.{pair_row}
 use Rattle.pairing_rules.specs.Slots.{has_given_key}
 use Rattle.pairing_rules.specs.Seats.{rows_of}
@@ -20,8 +20,8 @@ returns-clause-named c = λ key.
     let row = pair_row c.args.row.now in
     let trips = get_by_text old.trips.numbers in
     let vehicles = get_by_text old.vehicles.numbers in
-    let trip = c.number_given-trip.ensures.number ∙ ap (option_and_then trips) c.given.ensures in
-    let vehicle = c.number_given-vehicle.ensures.number ∙ ap (option_and_then vehicles) c.given-2.ensures in
+    let trip = c.number_given-trip.ensures.number ∙ ap (option_and_then trips) c.given_text.ensures in
+    let vehicle = c.number_given-vehicle.ensures.number ∙ ap (option_and_then vehicles) c.given_text-2.ensures in
     ap (list_any (same_key key)) c.in_ok-found.ensures.all ∙ sym (any-same (eq_by_cmp key_cmp key) (same_key key) (same-key key) _) ∙ c.in_ok-put_given_keys-3.ensures key
     ∙ ap (λ b. b || has_given_key old.by_vehicle c.number_given-vehicle.result key) (c.in_ok-put_given_keys-2.ensures key
     ∙ ap (λ b. b || has_given_key old.unpaired c.number_given-trip.result key) (c.in_ok-put_given_keys.ensures key ∙ ap (λ ks. list_any (is_at (key_cmp key)) ks || has_given_key old.paired c.number_given-trip.result key) c.new-keys.ensures.empty))

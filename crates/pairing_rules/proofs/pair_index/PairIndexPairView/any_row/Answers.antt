@@ -1,5 +1,5 @@
 use Rattle.std.proofs.Common.{◌∙◌, ap}
-use Rattle.rule_core.specs.Pairs.{any_row}
+use Rattle.rule_table.specs.Pairs.{any_row}
 use Rattle.pairing_rules.proofs.Seated.{kind-asked}
 use Rattle.pairing_rules.proofs.pair_index.PairIndexPairView.any_row.Goals as goal
 

@@ -1,7 +1,7 @@
 use Rattle.std.proofs.Common.{subst}
 use Rattle.follow_engine.specs.Deltas.{delta_value}
-use Rattle.rule_core.specs.Changed.{with}
-use Rattle.rule_core.specs.History.{Snapshot}
+use Rattle.rule_history.specs.Changed.{with}
+use Rattle.rule_history.specs.History.{Snapshot}
 use Rattle.run_trial.specs.declared.summing.TrialEnd.{TrialEnd}
 use Rattle.run_trial.specs.Tried.{IsSummedUp}
 use Rattle.run_trial.proofs.Trying.{same_snapshot, summed_next}

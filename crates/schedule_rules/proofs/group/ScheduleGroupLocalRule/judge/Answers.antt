@@ -2,8 +2,8 @@ use Rattle.std.proofs.Common.{rules, ◌≡◌, ◌+◌, ◌≤◌, [], ◌++◌
 use Rattle.std.proofs.lemmas.List.{append-nil}
 use Rattle.timetable.specs.Lookups.{is_present}
 use Rattle.feed_values.specs.Views.{entity_value}
-use Rattle.rule_core.specs.Answered.{tables_of, local_answer}
-use Rattle.rule_core.specs.Judged.{found_all}
+use Rattle.rule_history.specs.Answered.{tables_of, local_answer}
+use Rattle.rule_table.specs.Judged.{found_all}
 use Rattle.schedule_rules.specs.Schedule.{schedule_rules}
 use Rattle.schedule_rules.proofs.Absent.{no_timetable}
 use Rattle.schedule_rules.proofs.group.ScheduleGroupLocalRule.judge.Goals as goal

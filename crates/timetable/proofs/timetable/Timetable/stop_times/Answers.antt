@@ -1,6 +1,6 @@
 use Rattle.std.proofs.Common.{All, ap, length, subst, sym, ◌<◌, ◌∙◌}
 use Rattle.std.specs.FinMap.{entries}
-use Rattle.timetable.specs.Numbers.{HasNumber}
+use Rattle.schedule_tables.specs.Numbers.{HasNumber}
 use Rattle.timetable.specs.Timetables.{trip_times}
 use Rattle.timetable.proofs.TimetableLemmas.{has_stop, no_times, one_id, tables_of_held, trips_of_held}
 use Rattle.timetable.proofs.timetable.Timetable.stop_times.Goals as goal

@@ -1,3 +1,0 @@
-pub mod OneMore
-pub mod Standing
-pub mod ByIds

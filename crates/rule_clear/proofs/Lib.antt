@@ -1,0 +1,6 @@
+pub mod StopWays
+pub mod NoneWhereKept
+pub mod NoneWhereSound
+pub mod NoneWhereGiven
+pub mod NoneWithout
+pub mod Cleared

@@ -1,0 +1,11 @@
+pub use Rattle.rule_table.specs.ClearSlots
+pub use Rattle.rule_table.specs.Found
+pub use Rattle.rule_table.specs.Groups
+pub use Rattle.rule_table.specs.Judged
+pub use Rattle.rule_table.specs.Same
+pub use Rattle.rule_table.specs.Sources
+pub use Rattle.rule_history.specs.Answered
+pub mod Keeping
+pub mod KnownTrips
+pub mod Sound
+pub mod Clear

@@ -1,0 +1,4 @@
+pub mod Holding
+pub mod Anchors
+pub mod Evidence
+pub mod Shown

@@ -1,0 +1,12 @@
+pub use Rattle.rule_table.specs.Answers
+pub use Rattle.rule_table.specs.Asked
+pub use Rattle.rule_table.specs.Found
+pub use Rattle.rule_table.specs.Judged
+pub use Rattle.rule_table.specs.Order
+pub use Rattle.rule_table.specs.Pairs
+pub use Rattle.rule_table.specs.Table
+pub mod History
+pub mod Answered
+pub mod Findings
+pub mod Standing
+pub mod Changed

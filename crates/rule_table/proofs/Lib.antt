@@ -1,0 +1,9 @@
+pub mod Formed
+pub mod Stopping
+pub mod MoreCells
+pub mod NoneSettled
+pub mod NoneThere
+pub mod Marking
+pub mod FactsEnd
+pub mod CountedMore
+pub mod SameKeys

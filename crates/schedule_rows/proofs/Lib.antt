@@ -1,0 +1,3 @@
+pub mod TrimLemmas
+pub mod PlaceLemmas
+pub mod ColumnLemmas

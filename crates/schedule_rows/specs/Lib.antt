@@ -1,0 +1,11 @@
+pub use Rattle.csv_records.specs.Records
+pub use Rattle.csv_records.specs.Results
+pub use Rattle.csv_records.specs.Texts
+pub mod Columns
+pub mod Files
+pub mod Fields
+pub mod Headers
+pub mod Cells
+pub mod Values
+pub mod OptionalTimes
+pub mod Items

@@ -1,0 +1,11 @@
+pub mod KeyedLemmas
+pub mod MapLemmas
+pub mod DayLemmas
+pub mod LawLemmas
+pub mod KeyLemmas
+pub mod SequenceLemmas
+pub mod RowLemmas
+pub mod StopLemmas
+pub mod VisitLemmas
+pub mod FolderLemmas
+pub mod NumberLemmas

@@ -1,0 +1,13 @@
+use Rattle.std.proofs.Common.{◌≡◌, ◌+◌, ◌≤◌, ◌^◌, length}
+use Rattle.schedule_tables.specs.Tables.{rows_from}
+use Rattle.schedule_tables.proofs.table.read_rows.Given as goal
+
+-- what is left goes on from what was read, and the numbers of the rows stay small
+abbrev pub invariant-loop-table : goal.invariant-loop-table
+invariant-loop-table g l = record {
+  rest : rows_from g.T.Table.format l.header l.number l.table l.rows ≡ rows_from g.T.Table.format l.header 2 g.T.Table.format.empty l.fn.rows;
+  few : l.number + length l.rows ≤ 2 ^ 63 + 2;
+}
+
+abbrev pub decreases-loop-table : goal.decreases-loop-table
+decreases-loop-table g l = length l.rows

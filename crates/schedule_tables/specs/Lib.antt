@@ -1,0 +1,15 @@
+pub use Rattle.csv_records.specs.Records
+pub use Rattle.csv_records.specs.Results
+pub use Rattle.schedule_rows.specs.Columns
+pub use Rattle.schedule_rows.specs.Files
+pub use Rattle.schedule_rows.specs.Cells
+pub use Rattle.schedule_rows.specs.Items
+pub mod Maps
+pub mod Groups
+pub mod Tables
+pub mod Laws
+pub mod Formats
+pub mod Times
+pub mod Stops
+pub mod Folders
+pub mod Numbers

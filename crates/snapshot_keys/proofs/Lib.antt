@@ -1,0 +1,5 @@
+pub mod Lasts
+pub mod Found
+pub mod OneMore
+pub mod Standing
+pub mod ByIds

@@ -1,0 +1,95 @@
+-- One entity more of a snapshot.
+use Rattle.std.specs.Prelude.{◌≡◌, ◌<◌, ◌≤◌, ◌+◌, ℕ, zero, suc, List, [], ◌∷◌, ◌++◌, length, map, get_or, slice_get, take, drop, Some, cond, bytes_eq, refl}
+use Rattle.std.specs.Ordering.{match_ordering}
+use Rattle.std.specs.declared.cmp.Ordering.TheVariants as order
+use Rattle.std.specs.BTreeMap.{insert_entry}
+use Rattle.std.proofs.Common.{sym, ap, ◌∙◌, arith}
+use Rattle.std.proofs.lemmas.List.{drop_all, take_more, drop_more, map-append}
+use Rattle.feed_values.specs.Schema.{Value}
+use Rattle.feed_values.specs.Messages.{entity}
+use Rattle.feed_values.specs.Snapshot.{entities_of, entity_of, entity_payloads}
+use Rattle.feed_values.proofs.SnapshotFields.{snapshot_is_its_fields}
+use Rattle.rule_table.specs.declared.key.EntityKey.{EntityKey}
+use Rattle.rule_history.specs.History.{ordered_after}
+use Rattle.rule_table.specs.Order.{key_cmp}
+use Rattle.judging.specs.Seats.{Seat, count_id, id_of, seated_after, seats}
+use Rattle.snapshot_keys.specs.Places.{Places, AreWithin, entity_at, placed}
+
+count_last : (es : List (Value entity)) (e : Value entity) (id : List ℕ) → count_id (es ++ e ∷ []) id ≡ cond (bytes_eq (id_of e) id) 1 0 + count_id es id
+count_last [] e id = refl
+count_last (x ∷ es) e id = ap (λ n. cond (bytes_eq (id_of x) id) 1 0 + n) (count_last es e id) ∙ moved (cond (bytes_eq (id_of x) id) 1 0) (cond (bytes_eq (id_of e) id) 1 0) (count_id es id)
+  where
+    moved : (a b c : ℕ) → a + (b + c) ≡ b + (a + c)
+    moved a b c = omega arith
+
+insert_place : (bytes : List ℕ) (es : Places) (k : EntityKey) (place : ℕ) → placed bytes (insert_entry key_cmp es k place) ≡ insert_entry key_cmp (placed bytes es) k (entity_at bytes place)
+insert_place bytes [] k place = refl
+insert_place bytes (e ∷ es) k place =
+    elim (key_cmp k e.0) as (λ o. placed bytes (match_ordering o ((k, place) ∷ e ∷ es) ((e.0, place) ∷ es) (e ∷ insert_entry key_cmp es k place))
+    ≡ match_ordering o ((k, entity_at bytes place) ∷ placed bytes (e ∷ es)) ((e.0, entity_at bytes place) ∷ placed bytes es) ((let s : Seat = (e.0, entity_at bytes e.1) in s) ∷ insert_entry key_cmp (placed bytes es) k (entity_at bytes place))) [
+      | order.Less ↦ refl
+      | order.Equal ↦ refl
+      | order.Greater ↦ ap (λ xs. (let s : Seat = (e.0, entity_at bytes e.1) in s) ∷ xs) (insert_place bytes es k place)
+    ]
+
+pub within_put : (bytes : List ℕ) (es : Places) (k : EntityKey) (place : ℕ) → place < length (entity_payloads bytes) → AreWithin bytes es → AreWithin bytes (insert_entry key_cmp es k place)
+within_put bytes [] k place l h = (l, tt)
+within_put bytes (e ∷ es) k place l h =
+    elim (key_cmp k e.0) as (λ o. AreWithin bytes (match_ordering o ((k, place) ∷ e ∷ es) ((e.0, place) ∷ es) (e ∷ insert_entry key_cmp es k place))) [
+      | order.Less ↦ (l, h)
+      | order.Equal ↦ (l, h.1)
+      | order.Greater ↦ (h.0, within_put bytes es k place l h.1)
+    ]
+
+pub read_payload : (ps : List (List ℕ)) (i : ℕ) (p : List ℕ) → Some p ≡ slice_get ps i → get_or ps i [] ≡ p
+read_payload [] zero p h = cc
+read_payload [] (suc i) p h = cc
+read_payload (q ∷ ps) zero p h = sym (same h)
+  where
+    same : Some p ≡ Some q → p ≡ q
+    same e = cc
+read_payload (q ∷ ps) (suc i) p h = read_payload ps i p h
+
+-- behind the last entity they are all
+pub all_placed : (bytes : List ℕ) (f : ℕ) (es : Places) (i : ℕ) → length (entity_payloads bytes) ≤ i →
+    ordered_after (placed bytes es) (seated_after f (map entity_of (take i (entity_payloads bytes))) (map entity_of (drop i (entity_payloads bytes)))) ≡ ordered_after [] (seated_after f [] (map entity_of (entity_payloads bytes))) →
+    placed bytes es ≡ seats f (entities_of bytes)
+all_placed bytes f es i l before =
+    sym (ap (λ xs. ordered_after (placed bytes es) (seated_after f (map entity_of (take i (entity_payloads bytes))) (map entity_of xs))) (drop_all i (entity_payloads bytes) l))
+    ∙ before ∙ ap (λ vs. ordered_after [] (seated_after f [] vs)) (sym (snapshot_is_its_fields.entities bytes))
+
+module _ (bytes : List ℕ) (i : ℕ) (p : List ℕ) (l : i < length (entity_payloads bytes)) (is : Some p ≡ slice_get (entity_payloads bytes) i) where
+  abbrev ps : List (List ℕ)
+  ps = entity_payloads bytes
+
+  -- the entities before, and those from this one on
+  abbrev pub done : List (Value entity)
+  done = map entity_of (take i ps)
+
+  abbrev left : List (Value entity)
+  left = map entity_of (drop (i + 1) ps)
+
+  here : get_or ps i [] ≡ p
+  here = read_payload ps i p is
+
+  done_more : map entity_of (take (i + 1) ps) ≡ done ++ entity_of p ∷ []
+  done_more = ap (map entity_of) (take_more ps i [] l ∙ ap (λ y. take i ps ++ y ∷ []) here) ∙ map-append entity_of (take i ps) (p ∷ [])
+
+  left_more : map entity_of (drop i ps) ≡ entity_of p ∷ left
+  left_more = ap (map entity_of) (drop_more ps i [] l ∙ ap (λ y. y ∷ drop (i + 1) ps) here)
+
+  pub counted_next : (id : List ℕ) → count_id (map entity_of (take (i + 1) ps)) id ≡ cond (bytes_eq (id_of (entity_of p)) id) 1 0 + count_id done id
+  counted_next id = ap (λ xs. count_id xs id) done_more ∙ count_last done (entity_of p) id
+
+  pub seated_next : (f n : ℕ) (id : List ℕ) (old new : Places) (all : List Seat) → id ≡ id_of (entity_of p) → n ≡ count_id done (id_of (entity_of p))
+      → new ≡ insert_entry key_cmp old (record { feed = f; id = id; occurrence = n }) i
+      → ordered_after (placed bytes old) (seated_after f done (map entity_of (drop i ps))) ≡ all
+      → ordered_after (placed bytes new) (seated_after f (map entity_of (take (i + 1) ps)) (map entity_of (drop (i + 1) ps))) ≡ all
+  seated_next f n id old new all named count put before =
+      ap (λ xs. ordered_after (placed bytes new) (seated_after f xs left)) done_more
+      ∙ ap (λ xs. ordered_after (placed bytes xs) (seated_after f (done ++ entity_of p ∷ []) left)) put
+      ∙ ap (λ xs. ordered_after xs (seated_after f (done ++ entity_of p ∷ []) left)) (insert_place bytes old (record { feed = f; id = id; occurrence = n }) i)
+      ∙ ap (λ v. ordered_after (insert_entry key_cmp (placed bytes old) (record { feed = f; id = id; occurrence = n }) (entity_of v)) (seated_after f (done ++ entity_of p ∷ []) left)) here
+      ∙ ap (λ d. ordered_after (insert_entry key_cmp (placed bytes old) (record { feed = f; id = d; occurrence = n }) (entity_of p)) (seated_after f (done ++ entity_of p ∷ []) left)) named
+      ∙ ap (λ m. ordered_after (insert_entry key_cmp (placed bytes old) (record { feed = f; id = id_of (entity_of p); occurrence = m }) (entity_of p)) (seated_after f (done ++ entity_of p ∷ []) left)) count
+      ∙ sym (ap (λ xs. ordered_after (placed bytes old) (seated_after f done xs)) left_more) ∙ before

@@ -1,0 +1,12 @@
+use Rattle.std.proofs.Common.{◌≡◌}
+use Rattle.judging.specs.Judged.{put_rows}
+use Rattle.snapshot_keys.specs.Places.{AreWithin, placed}
+use Rattle.snapshot_keys.specs.Rowed.{rows_by}
+use Rattle.snapshot_keys.proofs.rows.add_rows.Given as goal
+
+-- the rows that are left put in
+abbrev pub invariant-loop-key : goal.invariant-loop-key
+invariant-loop-key l = record {
+  put : put_rows l.index (rows_by l.kind (placed l.kept l.key-iterator)) ≡ put_rows l.fn.index (rows_by l.kind (placed l.kept l.places.entries));
+  within : AreWithin l.kept l.key-iterator;
+}

@@ -1,6 +1,0 @@
-use Rattle.std.proofs.Common.{◌∙◌}
-use Rattle.timetable.proofs.MapLemmas.{entries_there}
-use Rattle.timetable.proofs.grouped.Grouped.is_empty.Goals as goal
-
-pub returns-clause-some : goal.returns-clause-some
-returns-clause-some g c answer nothing = entries_there c.self.inside.groups.entries (λ few. let held = c.is_empty.ensures.1 few in cc) (c.self.view_is ∙ nothing)

@@ -1,5 +1,0 @@
-use Rattle.timetable.proofs.Left.{few_records}
-use Rattle.timetable.proofs.records.Records.new.Goals as goal
-
-pub returns-clause-few : goal.returns-clause-few
-returns-clause-few c = few_records c.args.bytes.now
