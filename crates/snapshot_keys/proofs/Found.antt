@@ -12,7 +12,7 @@ use Rattle.rule_table.specs.Judged.{update_of}
 use Rattle.rule_table.specs.Pairs.{trip_id_in, vehicle_id_in, vehicle_of}
 use Rattle.snapshot_keys.specs.declared.ids.ReadIds.{ReadIds}
 use Rattle.snapshot_keys.specs.Ids.{ids_at, update_ids, vehicle_ids}
-use Rattle.snapshot_keys.specs.Paths.{last_at}
+use Rattle.feed_codec.specs.LastPayloads.{last_at}
 
 abbrev payloads : ℕ → List WireField → List (List ℕ)
 payloads n l = given (in_slot payload_in n) l
@@ -56,8 +56,3 @@ update_is l = by_cases (slots_of trip_update trip_update) update_ids 3 (λ m. sa
 pub vehicle_is : (l : List WireField) → ids_at 4 8 l ≡ option_map vehicle_ids (vehicle_of (meaning entity l))
 unfolding meaning last_at
 vehicle_is l = by_cases (slots_of vehicle_position vehicle_position) vehicle_ids 8 (λ m. same_ids (trip_given (payloads 1 m)) (vehicle_given (payloads 8 m))) (payloads 4 l)
-
--- the id of an entity
-pub id_is : (l : List WireField) → unwrap_or (last_at [] 1 l) [] ≡ (meaning entity l).0
-unfolding meaning last_at
-id_is l = refl

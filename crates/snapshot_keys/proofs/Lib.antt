@@ -1,4 +1,3 @@
-pub mod Lasts
 pub mod Found
 pub mod OneMore
 pub mod Standing

@@ -50,6 +50,16 @@ read_payload (q ∷ ps) zero p h = sym (same h)
     same e = cc
 read_payload (q ∷ ps) (suc i) p h = read_payload ps i p h
 
+-- each number below the count has a payload
+pub payload_there : (ps : List (List ℕ)) (i : ℕ) → i < length ps → Some (get_or ps i []) ≡ slice_get ps i
+payload_there [] i l = absurd (omega (arith, l))
+payload_there (p ∷ ps) zero l = refl
+payload_there (p ∷ ps) (suc i) l = payload_there ps i (omega (arith, l))
+
+-- the key of an id before which others stand
+abbrev pub other_key : ℕ → List ℕ → ℕ → EntityKey
+other_key feed id before = record { feed = feed; id = id; occurrence = before }
+
 -- behind the last entity they are all
 pub all_placed : (bytes : List ℕ) (f : ℕ) (es : Places) (i : ℕ) → length (entity_payloads bytes) ≤ i →
     ordered_after (placed bytes es) (seated_after f (map entity_of (take i (entity_payloads bytes))) (map entity_of (drop i (entity_payloads bytes)))) ≡ ordered_after [] (seated_after f [] (map entity_of (entity_payloads bytes))) →

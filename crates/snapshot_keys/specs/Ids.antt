@@ -6,7 +6,7 @@ use Rattle.feed_values.specs.Schema.{Value}
 use Rattle.feed_values.specs.Messages.{trip_update, vehicle_position}
 use Rattle.rule_table.specs.Pairs.{GivenIds, of_update, of_vehicle}
 use Rattle.snapshot_keys.specs.declared.ids.ReadIds.{ReadIds}
-use Rattle.snapshot_keys.specs.Paths.{last_at}
+use Rattle.feed_codec.specs.LastPayloads.{last_at}
 
 abbrev read_as : GivenIds → ReadIds
 read_as ids = record { trip = ids.trip; vehicle = ids.vehicle }

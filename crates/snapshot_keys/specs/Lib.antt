@@ -2,7 +2,6 @@ pub use Rattle.rule_table.specs.Pairs
 pub use Rattle.judging.specs.Judged
 pub use Rattle.judging.specs.Seats
 pub use Rattle.pairing_rules.specs.ByKind
-pub mod Paths
 pub mod Ids
 pub mod Places
 pub mod Rowed

@@ -1,4 +1,4 @@
-//! The ids of an entity.
+//! The ids by which an entity's trip update and vehicle position are paired.
 ghost use Rattle.std.specs.Prelude.{◌≡◌, IfOk, option_copied, option_map};
 ghost use Rattle.feed_values.specs.Meaning.{fields};
 ghost use Rattle.feed_values.specs.Snapshot.{entity_of};
@@ -6,15 +6,12 @@ ghost use Rattle.rule_table.specs.Judged.{update_of};
 ghost use Rattle.rule_table.specs.Pairs.{vehicle_of};
 ghost use Rattle.snapshot_keys.specs.Ids.{ids_at, update_ids, vehicle_ids};
 
-use crate::paths::last_at;
 use crate::slot_ids::SlotIds;
 use feed_values::Text;
 use std::alloc::{AllocError, Global};
 use std::str;
 
 // The numbers of slots. (GTFS Realtime Reference 2.0, the protocol buffer's definition.)
-const ENTITY_ID: u32 = 1;
-
 const TRIP_UPDATE: u32 = 3;
 
 const VEHICLE: u32 = 4;
@@ -30,7 +27,7 @@ pub(crate) struct ReadIds {
     pub vehicle: Option<Text>,
 }
 
-// The text of these bytes. Where they aren't UTF-8, which no accepted snapshot has, it answers want of memory.
+// The text of these bytes. Where they aren't UTF-8, which no accepted snapshot has, this and all that calls it answer want of memory.
 fn text_of(alloc: Global, bytes: &[u8]) -> Result<Text, AllocError>
     ensures { IfOk result (λ text. text ≡ bytes.now) }
 {
@@ -47,18 +44,6 @@ fn text_given(alloc: Global, bytes: Option<&[u8]>) -> Result<Option<Text>, Alloc
     match bytes {
         Some(bytes) => Ok(Some(text_of(alloc, bytes)?)),
         None => Ok(None),
-    }
-}
-
-/// The id of an entity, by its bytes, and no text where they give none. (GTFS Realtime Reference 2.0, "FeedEntity".)
-///
-/// Where a text isn't UTF-8, which no accepted snapshot has, the calls of this file answer want of memory.
-pub(crate) fn entity_id(alloc: Global, payload: &[u8]) -> Result<Text, AllocError>
-    ensures { IfOk result (λ id. id ≡ (entity_of payload.now).0) }
-{
-    match last_at(payload, ENTITY_ID) {
-        Some(id) => text_of(alloc, id),
-        None => Ok(Text::new(alloc)),
     }
 }
 

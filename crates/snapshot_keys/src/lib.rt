@@ -3,15 +3,13 @@
 //! So a snapshot can be judged one entity after the other, and no more than one of them is held decoded. Ids are read from the
 //! fields of an entity; what they are is what the decoded entity would hold.
 //!
-//! - `paths`: the last payload of a slot
 //! - `slot_ids`: what a slot of an entity holds
-//! - `ids`: the ids of an entity, its own and those by which a trip update and a vehicle position are paired
+//! - `ids`: the ids by which a trip update and a vehicle position are paired
 //! - `placing`: the numbers of the entities under their keys
 //! - `rows`: their pairing rows
 #![tactic(auto)]
 
 mod ids;
-mod paths;
 mod placing;
 mod rows;
 mod slot_ids;

@@ -1,13 +1,14 @@
 //! The entities of a kept snapshot under their keys, by their numbers.
-ghost use Rattle.std.specs.Prelude.{◌≡◌, ◌+◌, List, ℕ, IfOk, OnOk, not, is_some, bytes_eq, if◌then◌else◌};
+ghost use Rattle.std.specs.Prelude.{◌≡◌, ◌<◌, ◌+◌, List, ℕ, Some, IfOk, OnOk, length, slice_get, not, is_some, bytes_eq, if◌then◌else◌};
 ghost use Rattle.std.specs.BTreeMap.{get, insert_entry};
-ghost use Rattle.feed_values.specs.Snapshot.{entity_of};
+ghost use Rattle.feed_values.specs.Snapshot.{entity_of, entity_payloads};
 ghost use Rattle.rule_table.specs.Order.{key_cmp};
-ghost use Rattle.judging.specs.Seats.{count_in, id_of};
-ghost use Rattle.snapshot_keys.specs.Places.{ArePlaces, key_of};
+ghost use Rattle.rule_table.specs.Counts.{count_in};
+ghost use Rattle.judging.specs.Seats.{id_of};
+ghost use Rattle.snapshot_keys.specs.Places.{ArePlaces};
 
-use snapshot_keys::entity_id;
 use feed_stream::Kept;
+use feed_values::Text;
 use rule_table::{EntityKey, count_one};
 use std::alloc::{AllocError, Global};
 use std::collections::BTreeMap;
@@ -31,19 +32,26 @@ fn put_new(
     }
 }
 
+/// The id of the entity of this number.
+fn id_text(alloc: Global, kept: &Kept, place: usize) -> Result<Text, AllocError>
+    requires { place < length (entity_payloads kept.now) }
+    ensures { IfOk result (λ id. (p : List ℕ) → Some p ≡ slice_get (entity_payloads kept.now) place → id ≡ id_of (entity_of p)) }
+{
+    Text::of(alloc, kept.entity_id(place))
+}
+
 /// Puts in the number of an entity whose id stands under its first key already, and counts it among the others of that id.
 fn put_other(
     alloc: Global,
     feed: u8,
-    entity: &[u8],
+    id: Text,
     others: &mut BTreeMap<String, u32>,
     places: &mut BTreeMap<EntityKey, usize>,
     place: usize,
 ) -> Result<(), AllocError>
-    ensures entries { OnOk result (places.new.entries ≡ insert_entry key_cmp places.old.entries (key_of feed (entity_of entity.now) (count_in others.old (id_of (entity_of entity.now)) + 1)) place) }
-    ensures counted { OnOk result ((id : List ℕ) → count_in others.new id ≡ (if bytes_eq (id_of (entity_of entity.now)) id then 1 else 0) + count_in others.old id) }
+    ensures entries { OnOk result (places.new.entries ≡ insert_entry key_cmp places.old.entries (record { feed = feed; id = id; occurrence = count_in others.old id + 1 }) place) }
+    ensures counted { OnOk result ((other : List ℕ) → count_in others.new other ≡ (if bytes_eq id other then 1 else 0) + count_in others.old other) }
 {
-    let id = entity_id(alloc, entity)?;
     let Some(occurrence) = count_one(alloc, others, id.as_str())?.checked_add(1) else {
         return Err(AllocError);
     };
@@ -70,14 +78,14 @@ pub fn places(
     let mut others = BTreeMap::new(alloc);
     let mut places = BTreeMap::new(alloc);
     for place in 0..kept.len() {
-        let entity = kept.entity(place);
         let first = EntityKey {
             feed,
-            id: entity_id(alloc, entity)?,
+            id: id_text(alloc, kept, place)?,
             occurrence: 0,
         };
         if !put_new(&mut places, first, place)? {
-            put_other(alloc, feed, entity, &mut others, &mut places, place)?;
+            let id = id_text(alloc, kept, place)?;
+            put_other(alloc, feed, id, &mut others, &mut places, place)?;
         }
     }
     Ok(places)

@@ -3,9 +3,9 @@ ghost use Rattle.std.specs.Prelude.{◌≡◌, ◌∷◌, [], Some, option_copie
 ghost use Rattle.std.specs.Option.{option_or};
 ghost use Rattle.rt_wire.specs.Placed.{placed_field};
 ghost use Rattle.feed_values.specs.Meaning.{fields, in_slot, payload_in};
-ghost use Rattle.snapshot_keys.specs.Paths as paths;
+ghost use Rattle.feed_codec.specs.LastPayloads as paths;
 
-use crate::paths::{last_at, payload_of};
+use feed_codec::{last_payload, payload_of};
 use rt_wire::{Fields, RawField};
 
 const TRIP: u32 = 1;
@@ -26,7 +26,7 @@ fn id_after<'a>(field: &RawField<'a>, slot: u32, before: Option<&'a [u8]>) -> Op
     ensures { option_copied result ≡ option_or (paths.within [] 1 (in_slot payload_in slot (placed_field field.now).field)) (option_copied before.entry) }
 {
     match payload_of(field, slot) {
-        Some(descriptor) => last_at(descriptor, ID).or(before),
+        Some(descriptor) => last_payload(descriptor, ID).or(before),
         None => before,
     }
 }

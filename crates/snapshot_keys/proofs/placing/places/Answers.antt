@@ -1,10 +1,12 @@
-use Rattle.std.proofs.Common.{◌≡◌, ◌+◌, ℕ, List, true, false, refl, ap, ◌∙◌, sym, subst, cond, map, take, arith}
+use Rattle.std.proofs.Common.{◌≡◌, ◌+◌, ℕ, List, [], Some, true, false, refl, ap, ◌∙◌, sym, subst, cond, map, take, get_or, arith}
+use Rattle.std.specs.Prelude.{bytes_eq, slice_get}
 use Rattle.std.specs.BTreeMap.{insert_entry}
 use Rattle.feed_values.specs.Snapshot.{entity_of, entity_payloads}
 use Rattle.rule_table.specs.Order.{key_cmp}
-use Rattle.judging.specs.Seats.{count_id, count_in, id_of}
+use Rattle.rule_table.specs.Counts.{count_in}
+use Rattle.judging.specs.Seats.{count_id, id_of}
 use Rattle.snapshot_keys.specs.Places.{AreWithin, key_of}
-use Rattle.snapshot_keys.proofs.OneMore.{all_placed, counted_next, seated_next, within_put}
+use Rattle.snapshot_keys.proofs.OneMore.{all_placed, counted_next, other_key, payload_there, seated_next, within_put}
 use Rattle.snapshot_keys.proofs.Standing.{counted_first, counted_other, first_key, number_first, number_other, single_first, single_other, stands, stands_first, stands_found, stands_still, was_false, was_true}
 use Rattle.snapshot_keys.proofs.placing.places.Goals as goal
 use Rattle.snapshot_keys.proofs.placing.places.Goals.{then-not-branch+in_ok-put_other, else-not-branch}
@@ -14,22 +16,25 @@ loop-place-preserved c =
     let bytes = c.args.kept.now in
     let f = c.args.feed in
     let place = c.loop-place.place in
-    let p = c.entity-entity.result.now in
+    let ps = entity_payloads bytes in
+    let p = get_or ps place [] in
     let d = id_of (entity_of p) in
     let i = c.loop-place.invariant in
     let es = c.loop-place.places.entries in
     let new = c.if-not-branch.places.entries in
     let count = count_id (map entity_of (take place (entity_payloads bytes))) in
-    let payload = c.entity-entity.ensures.payload in
-    let named : c.in_ok-entity_id.field-0 ≡ d = c.in_ok-entity_id.ensures in
-    let found = stands_found f es c.in_ok-entity_id.field-0 ∙ ap (stands f es) named in
+    let payload : Some p ≡ slice_get ps place = payload_there ps place (omega (arith, c.loop-place-test.true, i.small)) in
+    let named : c.in_ok-id_text.field-0 ≡ d = c.in_ok-id_text.ensures p payload in
+    let found = stands_found f es c.in_ok-id_text.field-0 ∙ ap (stands f es) named in
     elim c.if-not-branch.branch [
       | then-not-branch+in_ok-put_other w ↦
-          let same : c.put_new.new.places.entries ≡ es = c.in_ok-put_new.ensures.entries ∙ ap (λ b. cond b (insert_entry key_cmp es (first_key f c.in_ok-entity_id.field-0) place) es) w.if-not-branch.true in
+          let same : c.put_new.new.places.entries ≡ es = c.in_ok-put_new.ensures.entries ∙ ap (λ b. cond b (insert_entry key_cmp es (first_key f c.in_ok-id_text.field-0) place) es) w.if-not-branch.true in
           let again : stands f es d ≡ true = sym found ∙ was_true _ _ c.in_ok-put_new.ensures.is_new w.if-not-branch.true in
+          let named_again : w.in_ok-id.id ≡ d = w.in_ok-id.ensures p payload in
           let entries : new ≡ insert_entry key_cmp es (key_of f (entity_of p) (count_in c.loop-place.others d + 1)) place =
-          ap (λ m. m.entries) w.places-is ∙ w.in_ok-put_other.ensures.entries ∙ ap (λ xs. insert_entry key_cmp xs (key_of f (entity_of p) (count_in c.loop-place.others d + 1)) place) same in
-          let counts = λ (id : List ℕ). ap (λ m. count_in m id) w.others-is ∙ w.in_ok-put_other.ensures.counted id in
+          ap (λ m. m.entries) w.places-is ∙ w.in_ok-put_other.ensures.entries ∙ ap (λ (id : List ℕ). insert_entry key_cmp c.put_new.new.places.entries (other_key f id (count_in c.loop-place.others id + 1)) place) named_again
+          ∙ ap (λ xs. insert_entry key_cmp xs (key_of f (entity_of p) (count_in c.loop-place.others d + 1)) place) same in
+          let counts = λ (id : List ℕ). ap (λ m. count_in m id) w.others-is ∙ w.in_ok-put_other.ensures.counted id ∙ ap (λ (x : List ℕ). cond (bytes_eq x id) 1 0 + count_in c.loop-place.others id) named_again in
           let still = λ (id : List ℕ). ap (λ xs. stands f xs id) entries ∙ stands_still f place d es id (count_in c.loop-place.others d) in
           record {
             seated = seated_next bytes place p (omega arith) payload f (count_in c.loop-place.others d + 1) d es new _ refl (number_other d (stands f es) (count_in c.loop-place.others) count i.counted i.single again) entries i.seated;
@@ -42,7 +47,7 @@ loop-place-preserved c =
       | else-not-branch w ↦
           let fresh : stands f es d ≡ false = sym found ∙ was_false _ _ c.in_ok-put_new.ensures.is_new w.if-not-branch.false in
           let entries : new ≡ insert_entry key_cmp es (first_key f d) place =
-          ap (λ m. m.entries) w.places-is ∙ c.in_ok-put_new.ensures.entries ∙ ap (λ b. cond b (insert_entry key_cmp es (first_key f c.in_ok-entity_id.field-0) place) es) w.if-not-branch.false
+          ap (λ m. m.entries) w.places-is ∙ c.in_ok-put_new.ensures.entries ∙ ap (λ b. cond b (insert_entry key_cmp es (first_key f c.in_ok-id_text.field-0) place) es) w.if-not-branch.false
           ∙ ap (λ id. insert_entry key_cmp es (first_key f id) place) named in
           let first = λ (id : List ℕ). ap (λ xs. stands f xs id) entries ∙ stands_first f place d es id in
           record {

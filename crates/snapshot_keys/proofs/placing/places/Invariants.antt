@@ -1,7 +1,8 @@
 use Rattle.std.proofs.Common.{◌≡◌, ◌+◌, ℕ, List, [], false, cond, map, take, drop, length}
 use Rattle.feed_values.specs.Snapshot.{entity_of, entity_payloads}
 use Rattle.rule_history.specs.History.{ordered_after}
-use Rattle.judging.specs.Seats.{count_id, count_in, seated_after}
+use Rattle.rule_table.specs.Counts.{count_in}
+use Rattle.judging.specs.Seats.{count_id, seated_after}
 use Rattle.snapshot_keys.specs.Places.{AreWithin, placed}
 use Rattle.snapshot_keys.proofs.Standing.{stands}
 use Rattle.snapshot_keys.proofs.placing.places.Given as goal

@@ -1,7 +1,7 @@
 use Rattle.std.proofs.Common.{◌≡◌, ◌∷◌, [], None, Ok, Err, refl, ap, ◌∙◌}
 use Rattle.rt_wire.specs.Placed.{placed_field}
-use Rattle.snapshot_keys.specs.Paths.{within}
-use Rattle.snapshot_keys.proofs.Lasts.{last_inside, other_slot, walk_ends, walk_faults, walk_starts, walk_steps}
+use Rattle.feed_codec.specs.LastPayloads.{within}
+use Rattle.feed_codec.proofs.Lasts.{last_inside, other_slot, walk_ends, walk_faults, walk_starts, walk_steps}
 use Rattle.snapshot_keys.proofs.slot_ids.SlotIds.and_in.Goals as goal
 
 pub loop-field-init : goal.loop-field-init

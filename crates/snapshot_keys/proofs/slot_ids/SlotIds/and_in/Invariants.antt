@@ -1,7 +1,7 @@
 use Rattle.std.proofs.Common.{◌≡◌, ◌∷◌, [], Some, length, option_copied}
 use Rattle.std.specs.Option.{option_or}
 use Rattle.feed_values.specs.Meaning.{fields, whole_fields}
-use Rattle.snapshot_keys.specs.Paths.{last_at}
+use Rattle.feed_codec.specs.LastPayloads.{last_at}
 use Rattle.snapshot_keys.proofs.slot_ids.SlotIds.and_in.Given as goal
 
 abbrev pub invariant-loop-field : goal.invariant-loop-field

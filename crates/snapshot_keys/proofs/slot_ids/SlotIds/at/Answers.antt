@@ -1,6 +1,6 @@
 use Rattle.std.proofs.Common.{◌≡◌, ◌∷◌, [], Ok, Err, ◌∙◌}
 use Rattle.rt_wire.specs.Placed.{placed_field}
-use Rattle.snapshot_keys.proofs.Lasts.{last_here, last_inside, only_so_far, walk_ends, walk_faults, walk_starts, walk_steps}
+use Rattle.feed_codec.proofs.Lasts.{last_here, last_inside, only_so_far, walk_ends, walk_faults, walk_starts, walk_steps}
 use Rattle.snapshot_keys.proofs.slot_ids.SlotIds.at.Goals as goal
 
 pub loop-field-init : goal.loop-field-init
