@@ -1,16 +1,16 @@
 //! Numbers for texts.
 ghost use Rattle.std.specs.Prelude.{◌≡◌, ◌+◌, ◌<◌, ◌^◌, ℕ, List, Some, None, IfOk, OnOk, IfSome, option_copied, option_and_then, true};
-ghost use Rattle.std.specs.HashMap.{get_by_text};
+ghost use Rattle.std.specs.BTreeMap.{get_by_text};
 ghost use Rattle.pairing_rules.specs.Numbers.{AreApart, is_named};
 
 use std::alloc::{AllocError, Global};
-use std::collections::HashMap;
+use std::collections::BTreeMap;
 
 /// Texts by number: each text that was given a number has one of its own from then on. Numbers go down: an ordered set is
 /// searched from its front, and there the rows of a new text then stand.
 #[derive(Drop)]
 pub(crate) struct Names {
-    numbers: HashMap<String, u32>,
+    numbers: BTreeMap<String, u32>,
     last: u32,
     ghost apart: { AreApart (get_by_text numbers) last },
 }
@@ -20,7 +20,7 @@ impl Names {
         ensures { (text : List ℕ) → get_by_text result.numbers text ≡ None }
     {
         Names {
-            numbers: HashMap::new(alloc),
+            numbers: BTreeMap::new(alloc),
             last: u32::MAX,
         }
     }

@@ -45,7 +45,7 @@ pub struct PairIndex {
 
 impl Model for PairIndex {
     ghost use Rattle.std.specs.Prelude.{List};
-    ghost use Rattle.std.specs.HashMap.{get_by_text};
+    ghost use Rattle.std.specs.BTreeMap.{get_by_text};
     ghost use Rattle.rule_table.specs.Pairs as pairs;
     ghost use Rattle.pairing_rules.specs.Seats.{AreSeated, rows_of};
     ghost use Rattle.pairing_rules.specs.Index.{AreIndexed};

@@ -1,6 +1,6 @@
 //! Rows by the numbers of their ids.
 ghost use Rattle.std.specs.Prelude.{◌≡◌, option_copied};
-ghost use Rattle.std.specs.HashMap.{get_by_text};
+ghost use Rattle.std.specs.BTreeMap.{get_by_text};
 ghost use Rattle.pairing_rules.specs.Numbers.{numbered, where_given, where_missing};
 ghost use Rattle.pairing_rules.specs.Rows.{pair_row};
 ghost use Rattle.pairing_rules.specs.Seats.{seat_in, seat_of, low_seat};

@@ -1,6 +1,6 @@
 use Rattle.std.proofs.Common.{◌≡◌, true, Some, sym, ◌∙◌, ap}
 use Rattle.std.specs.Prelude.{map, option_and_then}
-use Rattle.std.specs.HashMap.{get_by_text}
+use Rattle.std.specs.BTreeMap.{get_by_text}
 use Rattle.std.specs.BTreeSet.{insert_key}
 use Rattle.pairing_rules.specs.Numbers.{is_named, number_of, numbered, where_given, where_missing}
 use Rattle.pairing_rules.specs.Rows.{pair_row, held_row, row_cmp}

@@ -1,5 +1,5 @@
 use Rattle.std.proofs.Common.{◌≡◌, true, Some, sym, ◌∙◌, ap}
-use Rattle.std.specs.HashMap.{get_by_text}
+use Rattle.std.specs.BTreeMap.{get_by_text}
 use Rattle.std.specs.BTreeMap.{is_at}
 use Rattle.std.specs.Set.{remove_key}
 use Rattle.pairing_rules.specs.Numbers.{is_named, number_of, where_given, where_missing}

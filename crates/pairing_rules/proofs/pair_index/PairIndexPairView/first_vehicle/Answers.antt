@@ -1,6 +1,6 @@
 use Rattle.std.proofs.Common.{sym, ◌∙◌, ap}
 use Rattle.std.specs.Prelude.{option_and_then}
-use Rattle.std.specs.HashMap.{get_by_text}
+use Rattle.std.specs.BTreeMap.{get_by_text}
 use Rattle.rule_table.specs.Pairs.{first_vehicle}
 use Rattle.pairing_rules.specs.Seats.{rows_of}
 use Rattle.pairing_rules.specs.Slots.{vehicle_in}

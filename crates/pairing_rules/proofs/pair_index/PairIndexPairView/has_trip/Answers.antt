@@ -1,5 +1,5 @@
 use Rattle.std.proofs.Common.{sym, ◌∙◌, ap}
-use Rattle.std.specs.HashMap.{get_by_text}
+use Rattle.std.specs.BTreeMap.{get_by_text}
 use Rattle.rule_table.specs.Pairs.{has_trip}
 use Rattle.pairing_rules.specs.Seats.{rows_of}
 use Rattle.pairing_rules.proofs.Asked.{trip-asked, trip-unasked}
