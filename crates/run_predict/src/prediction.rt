@@ -13,10 +13,10 @@ ghost use Rattle.run_base.specs.Carried.{CarriesOut, WritesPart, WritesWhole};
 
 use crate::zone_input::{told_as, zone_input};
 use feed_values::{Entity, TripUpdate};
-use rule_table::count_one;
 use prediction_table::{prediction_head, prediction_rows};
 use propagation::Resolver;
 use rt_outside::{Files, Sink, put_all};
+use rule_table::count_one;
 use run_base::{Fault, Status, put_refused, read_snapshot, say_fault, say_input_fault};
 use run_timetable::load_fault;
 use run_words::ZoneWord;

@@ -92,14 +92,20 @@ impl Options {
         ensures { result ≡ with_list self list }
     {
         let list = once(&self.list, list)?;
-        Some(Options { list: Some(list), ..self })
+        Some(Options {
+            list: Some(list),
+            ..self
+        })
     }
 
     fn with_zone(self, zone: ZoneWord) -> Option<Options>
         ensures { result ≡ with_zone self zone }
     {
         let zone = once(&self.zone, zone)?;
-        Some(Options { zone: Some(zone), ..self })
+        Some(Options {
+            zone: Some(zone),
+            ..self
+        })
     }
 }
 
