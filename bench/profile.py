@@ -14,7 +14,7 @@ from measuring import make, program
 CODEC = ("rt_wire", "feed_values", "feed_codec")
 RULES = ("rule_table", "rule_clear", "rule_history", "message_rules", "schedule_rules", "pairing_rules", "history_rules", "judging")
 # Functions that call all of decoding, or all that is done with entities: of each the call that takes most.
-DECODE = ("feed_codec::snapshot::check_snapshot", "feed_codec::message::merge::")
+DECODE = ("feed_codec::entity::check_entity_payload", "feed_codec::message::merge::")
 JUDGE = ("run_snapshot::findings::send_entities", "snapshot_keys::rows::add_rows")
 # What is called there beside: decoding each entity, freeing what was decoded, and its lines.
 FREE = "std_alloc::vec::Vec::drop::"
