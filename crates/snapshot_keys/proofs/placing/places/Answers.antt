@@ -9,7 +9,7 @@ use Rattle.snapshot_keys.specs.Places.{AreWithin, key_of}
 use Rattle.snapshot_keys.proofs.OneMore.{all_placed, counted_next, other_key, payload_there, seated_next, within_put}
 use Rattle.snapshot_keys.proofs.Standing.{counted_first, counted_other, first_key, number_first, number_other, single_first, single_other, stands, stands_first, stands_found, stands_still, was_false, was_true}
 use Rattle.snapshot_keys.proofs.placing.places.Goals as goal
-use Rattle.snapshot_keys.proofs.placing.places.Goals.{then-not-branch+in_ok-put_other, else-not-branch}
+use Rattle.snapshot_keys.proofs.placing.places.Goals.{then-not-branch+in_ok-id+in_ok-put_other, else-not-branch}
 
 pub loop-place-preserved : goal.loop-place-preserved
 loop-place-preserved c =
@@ -27,7 +27,7 @@ loop-place-preserved c =
     let named : c.in_ok-id_text.field-0 ≡ d = c.in_ok-id_text.ensures p payload in
     let found = stands_found f es c.in_ok-id_text.field-0 ∙ ap (stands f es) named in
     elim c.if-not-branch.branch [
-      | then-not-branch+in_ok-put_other w ↦
+      | then-not-branch+in_ok-id+in_ok-put_other w ↦
           let same : c.put_new.new.places.entries ≡ es = c.in_ok-put_new.ensures.entries ∙ ap (λ b. cond b (insert_entry key_cmp es (first_key f c.in_ok-id_text.field-0) place) es) w.if-not-branch.true in
           let again : stands f es d ≡ true = sym found ∙ was_true _ _ c.in_ok-put_new.ensures.is_new w.if-not-branch.true in
           let named_again : w.in_ok-id.id ≡ d = w.in_ok-id.ensures p payload in
