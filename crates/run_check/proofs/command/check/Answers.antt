@@ -14,7 +14,7 @@ returns-in-Ok-clause-carried g c =
     let folder = option_copied c.args.folder in
     carried_within (files_report (tables_had c.in-Ok.timetable) c.args.moment names) (with_timetable (λ t. files_report t c.args.moment names) folder) (Contains names) (IsInput folder names)
     _ _ _ _ c.check_files.result (λ name is. inl is) _ (rose_later _ _ _ c.load_given.ensures.later) c.load_given.ensures.contents
-    (report_given (λ t. files_report t c.args.moment names) folder (contents_told (g.F.Files.state c.args.files.now).told) c.in-Ok.timetable c.load_given.ensures.given) c.check_files.ensures.carried
+    (report_given (λ t. files_report t c.args.moment names) folder (contents_told (g.F.Files.state c.args.files.now).told) c.in-Ok.timetable c.in-Ok.ensures.given) c.check_files.ensures.carried
 
 pub returns-in-Err-clause-carried : goal.returns-in-Err-clause-carried
 returns-in-Err-clause-carried g c =

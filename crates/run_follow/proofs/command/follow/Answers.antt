@@ -16,7 +16,7 @@ returns-in-Ok g c =
     let mid = contents_told (g.F.Files.state c.load_given.new.files).told in
     carried_within (list_report list (tables_had c.in-Ok.timetable)) (with_timetable (list_report list) folder) (IsFollowed mid None list) (IsFollowed told folder list)
     _ _ _ _ c.follow_list.result (followed_more mid told folder list c.load_given.ensures.contents) _ (rose_later _ _ _ c.load_given.ensures.later) c.load_given.ensures.contents
-    (report_given (list_report list) folder told c.in-Ok.timetable c.load_given.ensures.given) c.follow_list.ensures
+    (report_given (list_report list) folder told c.in-Ok.timetable c.in-Ok.ensures.given) c.follow_list.ensures
 
 pub returns-in-Err : goal.returns-in-Err
 returns-in-Err g c =
