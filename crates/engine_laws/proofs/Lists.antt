@@ -1,11 +1,12 @@
 -- Laws of lists.
-use Rattle.std.specs.Prelude.{◌≡◌, ◌<◌, ℕ, zero, suc, Bool, true, false, cond, List, [], ◌∷◌, ◌++◌, map, filter, refl}
-use Rattle.std.specs.List.{flat_map}
-use Rattle.std.proofs.Common.{ap, ◌∙◌, arith, subst, sym}
+use Rattle.std.specs.Prelude.{◌≡◌, ◌<◌, ◌≤◌, ◌||◌, ℕ, zero, suc, Bool, true, false, cond, List, [], ◌∷◌, ◌++◌, map, filter, refl}
+use Rattle.std.specs.List.{flat_map, list_any}
+use Rattle.std.proofs.Common.{inl, inr, ap, ◌∙◌, arith, subst, sym}
+use Rattle.std.proofs.Math.Nat.{eq-or-lt_of_le}
 use Rattle.std.proofs.lemmas.List.{map-append}
 use Rattle.std.proofs.lemmas.List.Elements.{filter-append}
 use Rattle.rule_table.specs.Groups.{Each}
-use Rattle.rule_table.specs.GroupLaws.{each_append, each_weaken}
+use Rattle.rule_table.specs.GroupLaws.{each_append, each_weaken, or_right}
 use Rattle.rule_history.specs.History.{below}
 use Rattle.std.specs.declared.cmp.Ordering.{Ordering}
 use Rattle.std.specs.declared.cmp.Ordering.TheVariants.{Less}
@@ -46,6 +47,27 @@ map-below f part (suc n) = map-append f (below part n) (part n) ∙ ap (λ ys. y
 pub below-same : {A : Type 0} (one two : ℕ → List A) (n : ℕ) → ((g : ℕ) → g < n → one g ≡ two g) → below one n ≡ below two n
 below-same one two zero h = refl
 below-same one two (suc n) h = both (below-same one two n (λ g l. h g (omega arith))) (h n (omega arith))
+
+-- ---- a test that is true of one of some
+pub any_left : {A : Type 0} (p : A → Bool) (xs ys : List A) → list_any p xs ≡ true → list_any p (xs ++ ys) ≡ true
+any_left p [] ys h = cc
+any_left p (x ∷ xs) ys h =
+    elim (p x) as (λ b. (b || list_any p xs) ≡ true → (b || list_any p (xs ++ ys)) ≡ true) [ true ↦ λ _. refl | false ↦ λ k. any_left p xs ys k ] h
+
+pub any_right : {A : Type 0} (p : A → Bool) (xs ys : List A) → list_any p ys ≡ true → list_any p (xs ++ ys) ≡ true
+any_right p [] ys h = h
+any_right p (x ∷ xs) ys h = or_right (p x) (list_any p (xs ++ ys)) (any_right p xs ys h)
+
+pub any_below : {A : Type 0} (p : A → Bool) (part : ℕ → List A) (f n : ℕ) → f < n → list_any p (part f) ≡ true → list_any p (below part n) ≡ true
+any_below p part f zero l h = absurd (omega (arith, l))
+any_below p part f (suc n) l h =
+    elim (eq-or-lt_of_le (up n f l)) [
+      | inl e ↦ any_right p (below part n) (part n) (subst (λ m. list_any p (part m) ≡ true) e h)
+      | inr lt ↦ any_left p (below part n) (part n) (any_below p part f n lt h)
+    ]
+  where
+    up : (i j : ℕ) → j < suc i → j ≤ i
+    up i j h = omega (arith, h)
 
 -- ---- the same by parts
 pub filter-same : {A : Type 0} (p q : A → Bool) (xs : List A) → Each (λ x. p x ≡ q x) xs → filter p xs ≡ filter q xs

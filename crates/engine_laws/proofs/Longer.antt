@@ -71,6 +71,14 @@ now-feed h f s is =
     first_each (λ x. x.feed ≡ f) (recent h f) s
     (each_reversed (λ x. x.feed ≡ f) (filter (λ x. x.feed == f) h) (each_filtered (λ x. x.feed ≡ f) (λ x. x.feed == f) (λ x e. eqb-true x.feed f e) h)) is
 
+-- what holds of each snapshot holds of the last one of a feed
+pub now_each : (P : Snapshot → Type 0) (h : List Snapshot) (f : ℕ) (s : Snapshot) → Each P h → now h f ≡ Some s → P s
+now_each P h f s all is = first_each P (recent h f) s (each_reversed P (filter (λ x. x.feed == f) h) (kept h all)) is
+  where
+    kept : (xs : List Snapshot) → Each P xs → Each P (filter (λ x. x.feed == f) xs)
+    kept [] h = tt
+    kept (x ∷ xs) h = elim (x.feed == f) as (λ b. Each P (cond b (x ∷ filter (λ x. x.feed == f) xs) (filter (λ x. x.feed == f) xs))) [ true ↦ (h.0, kept xs h.1) | false ↦ kept xs h.1 ]
+
 -- ---- answers by what is at hand
 feed-answer : (t : Option Tables) (h : List Snapshot) (f : ℕ) (s : Snapshot) → now h f ≡ Some s → (a : Ask) →
     feed_answer t h f a ≡ option_or (heads_answer (heads_of s (before h f)) a) (option_or (timetable_answer t a) (rows_answer (rows h) a))

@@ -30,7 +30,7 @@ use Rattle.engine_laws.proofs.Sorted.{entities_rise, entities_feed, apart_rising
 use Rattle.engine_laws.proofs.Spots.{spot_self, having}
 
 -- ---- a list in order numbers itself
-renewed-itself : (xs : List Standing) (n : ℕ) → Rises found_cmp (findings_of xs) → renewed xs n (findings_of xs) ≡ xs
+pub renewed-itself : (xs : List Standing) (n : ℕ) → Rises found_cmp (findings_of xs) → renewed xs n (findings_of xs) ≡ xs
 renewed-itself [] n h = refl
 renewed-itself (x ∷ xs) n h =
     cons2

@@ -22,7 +22,7 @@ use Rattle.rule_table.specs.Groups.{Each}
 use Rattle.rule_table.specs.GroupLaws.{each_append, each_weaken}
 use Rattle.rule_table.specs.Pairs.{PairRow, rows_of, update_rows, vehicle_rows, vehicle_of, is_id, is_of, has_pair, shares_id, shares, same_id, same_row, has_row}
 use Rattle.rule_table.specs.PairAgree.{AgreeOnTrip, AgreeOnVehicle, AgreeOnRow}
-use Rattle.rule_history.specs.History.{Snapshot, Keyed, now, entities, entities_in, entities_of_snapshot, feed_limit}
+use Rattle.rule_history.specs.History.{Snapshot, Keyed, now, entities_in, entities_of_snapshot, below, feed_limit}
 use Rattle.rule_history.specs.Answered.{rows, rows_in}
 use Rattle.rule_history.specs.Changed.{rows_without, changed_rows}
 use Rattle.engine_laws.specs.Order.{Rises}
@@ -73,12 +73,16 @@ feed_rows : (f : ℕ) (n : Option Snapshot) → IsLastOf f n → Rises row_cmp (
 feed_rows f None l = (tt, tt)
 feed_rows f (Some s) l = (rows_rise_in (entities_in s.feed s.bytes) (entities_rise s.feed s.bytes), rows_at f (entities_in s.feed s.bytes) (subst (λ g. Each (λ e. e.0.feed ≡ g) (entities_in s.feed s.bytes)) l (entities_feed s.feed s.bytes)))
 
-pub rows_rise : (h : List Snapshot) → Rises row_cmp (rows h)
-rows_rise h =
-    (rises_below row_cmp (λ r. r.key.feed) feed_less (λ f. rows_in (entities h f)) (λ f. (feed_rows f (now h f) (last_now h f)).0) (λ f. (feed_rows f (now h f) (last_now h f)).1) feed_limit).0
+-- the rows of all feeds, by the last snapshot of each
+pub rows_rising : (last : ℕ → Option Snapshot) → ((f : ℕ) → IsLastOf f (last f)) → Rises row_cmp (below (λ f. rows_in (entities_of_snapshot (last f))) feed_limit)
+rows_rising last of =
+    (rises_below row_cmp (λ r. r.key.feed) feed_less (λ f. rows_in (entities_of_snapshot (last f))) (λ f. (feed_rows f (last f) (of f)).0) (λ f. (feed_rows f (last f) (of f)).1) feed_limit).0
   where
     feed_less : (a b : PairRow) → a.key.feed < b.key.feed → row_cmp a b ≡ Less
     feed_less a b l = key_less a b (ap (λ o. ordering_then o (ordering_then (slice_cmp nat_cmp a.key.id b.key.id) (nat_cmp a.key.occurrence b.key.occurrence))) (nat_less a.key.feed b.key.feed l))
+
+pub rows_rise : (h : List Snapshot) → Rises row_cmp (rows h)
+rows_rise h = rows_rising (now h) (last_now h)
 
 -- ---- rows that are the same are one
 kind_is : (a b : Kind) → same_kind a b ≡ true → a ≡ b
@@ -272,17 +276,19 @@ fewer p q w (x ∷ u) h =
     ap (λ b. b || list_any q u) (is_false (q x) (λ e. let m : p x ≡ true = w x e in let n : p x ≡ false = k.0 in cc (m, n))) ∙ fewer p q w u k.1
 
 -- a row that shares no id with rows that came or went
-pub rows_agree : (g h : List Snapshot) (r : PairRow) → list_any (shares r) (changed_rows (rows g) (rows h)) ≡ false → (f : ℕ) → AgreeOnRow (rows g) (rows h) f r
-rows_agree g h r none f = record {
-  trip = λ trip e. agree_trip (rows g) (rows h) (rows_rise g) (rows_rise h) trip (no_trip trip e);
-  vehicle = λ vehicle e. agree_vehicle (rows g) (rows h) (rows_rise g) (rows_rise h) f vehicle (no_vehicle vehicle e);
-  pair = λ trip vehicle e m k. agree_pair (rows g) (rows h) (rows_rise g) (rows_rise h) trip vehicle (no_trip trip e) k;
+pub row_agrees : (u v : List PairRow) → Rises row_cmp u → Rises row_cmp v → (r : PairRow) → list_any (shares r) (changed_rows u v) ≡ false → (f : ℕ) → AgreeOnRow u v f r
+row_agrees u v ru rv r none f = record {
+  trip = λ trip e. agree_trip u v ru rv trip (no_trip trip e);
+  vehicle = λ vehicle e. agree_vehicle u v ru rv f vehicle (no_vehicle vehicle e);
+  pair = λ trip vehicle e m k. agree_pair u v ru rv trip vehicle (no_trip trip e) k;
 }
   where
-    no_trip : (trip : List ℕ) → r.trip ≡ Some trip → list_any (λ c. is_id trip c.trip) (changed_rows (rows g) (rows h)) ≡ false
-    no_trip trip e =
-        fewer (shares r) (λ c. is_id trip c.trip) (λ c t. or_left (shares_id r.trip c.trip) (shares_id r.vehicle c.vehicle) (ap (λ o. shares_id o c.trip) e ∙ t)) (changed_rows (rows g) (rows h)) none
+    no_trip : (trip : List ℕ) → r.trip ≡ Some trip → list_any (λ c. is_id trip c.trip) (changed_rows u v) ≡ false
+    no_trip trip e = fewer (shares r) (λ c. is_id trip c.trip) (λ c t. or_left (shares_id r.trip c.trip) (shares_id r.vehicle c.vehicle) (ap (λ o. shares_id o c.trip) e ∙ t)) (changed_rows u v) none
 
-    no_vehicle : (vehicle : List ℕ) → r.vehicle ≡ Some vehicle → list_any (λ c. is_id vehicle c.vehicle) (changed_rows (rows g) (rows h)) ≡ false
+    no_vehicle : (vehicle : List ℕ) → r.vehicle ≡ Some vehicle → list_any (λ c. is_id vehicle c.vehicle) (changed_rows u v) ≡ false
     no_vehicle vehicle e =
-        fewer (shares r) (λ c. is_id vehicle c.vehicle) (λ c t. or_right (shares_id r.trip c.trip) (shares_id r.vehicle c.vehicle) (ap (λ o. shares_id o c.vehicle) e ∙ t)) (changed_rows (rows g) (rows h)) none
+        fewer (shares r) (λ c. is_id vehicle c.vehicle) (λ c t. or_right (shares_id r.trip c.trip) (shares_id r.vehicle c.vehicle) (ap (λ o. shares_id o c.vehicle) e ∙ t)) (changed_rows u v) none
+
+pub rows_agree : (g h : List Snapshot) (r : PairRow) → list_any (shares r) (changed_rows (rows g) (rows h)) ≡ false → (f : ℕ) → AgreeOnRow (rows g) (rows h) f r
+rows_agree g h = row_agrees (rows g) (rows h) (rows_rise g) (rows_rise h)

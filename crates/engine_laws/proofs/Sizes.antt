@@ -21,7 +21,7 @@ use Rattle.rule_history.specs.Answered.{rows, rows_in}
 use Rattle.rule_history.specs.Findings.{findings}
 use Rattle.rule_history.specs.Changed.{with, is_paired, keeps_bounds, count_of, tested, paired, bounded, in_tested, in_bounded, all_entities, is_under, is_bound_at, has_bound}
 use Rattle.rule_history.specs.Standing.{Standing}
-use Rattle.engine_laws.specs.Delta.{Delta, IsDelta, IsChange, is_other, has_limit, is_new, is_limited}
+use Rattle.engine_laws.specs.Delta.{Delta, IsDelta, IsChange, AreCounts, is_other, has_limit, is_new, is_limited, tested_held, paired_held, bounded_held}
 use Rattle.engine_laws.specs.HeldFeeds.{KeyedLists, HeldFeed, AreUnder, IsLastOf, IsOwn, list_under, joined, rows_held, IsNext}
 use Rattle.engine_laws.specs.Standings.{findings_of, IsListOf}
 use Rattle.engine_laws.proofs.Apart.{having-entity}
@@ -129,7 +129,7 @@ any_bound key (x ∷ xs) all =
     and_right false b c h = h
 
 -- whether a bound stands under a key is seen in its list
-bound_in : (t : Option Tables) (h : List Snapshot) (feeds : ℕ → HeldFeed) → ((f : ℕ) → IsOwn f (feeds f)) → findings_of (joined feeds) ≡ findings t h → (key : EntityKey) (f : ℕ) → key.feed ≡ f → f < feed_limit →
+pub bound_in : (t : Option Tables) (h : List Snapshot) (feeds : ℕ → HeldFeed) → ((f : ℕ) → IsOwn f (feeds f)) → findings_of (joined feeds) ≡ findings t h → (key : EntityKey) (f : ℕ) → key.feed ≡ f → f < feed_limit →
     has_bound t h key ≡ has_limit (list_under key (feeds f).entities)
 bound_in t h feeds home e key f at l =
     ap (list_any (is_bound_at key)) (sym e)
@@ -166,7 +166,7 @@ module _ (t : Option Tables) (applied : ℕ) (s : Snapshot) (old new : ℕ → H
   tested_else : (e : Keyed) → (e.0.feed == s.feed) ≡ false → in_tested g s e ≡ false
   tested_else e q = and_false (e.0.feed == s.feed) (is_other (entities g s.feed) e) q
 
-  pub tested_size : tested g s ≡ count_of (is_new (old s.feed)) (entities_in s.feed s.bytes)
+  pub tested_size : tested g s ≡ tested_held s old
   tested_size =
       count_one s.feed (in_tested g s) (is_new (old s.feed)) tested_there tested_else (entities (with g s)) (entities_at (with g s)) feed_limit is.feed
       ∙ ap (count_of (is_new (old s.feed))) now_is
@@ -177,7 +177,7 @@ module _ (t : Option Tables) (applied : ℕ) (s : Snapshot) (old new : ℕ → H
   old_rows : rows_held old ≡ rows g
   old_rows = below-same (λ f. rows_in (entities_of_snapshot (old f).last)) (λ f. rows_in (entities g f)) feed_limit (λ f l. ap (λ n. rows_in (entities_of_snapshot n)) (kept f))
 
-  pub paired_size : paired g s ≡ count_of (λ e. (e.0.feed == s.feed && is_new (old s.feed) e) || is_paired (rows_held old) (rows_held new) (rows_of e.0 (entity_of e.1))) (below (λ f. entities_of_snapshot (new f).last) feed_limit)
+  pub paired_size : paired g s ≡ paired_held s old new
   paired_size =
       ap (λ n. count_of (λ e. (e.0.feed == s.feed && is_other (entities_of_snapshot n) e) || is_paired (rows g) (rows (with g s)) (rows_of e.0 (entity_of e.1))) (all_entities (with g s))) (sym (kept s.feed))
       ∙ ap (λ u. count_of (λ e. (e.0.feed == s.feed && is_new (old s.feed) e) || is_paired u (rows (with g s)) (rows_of e.0 (entity_of e.1))) (all_entities (with g s))) (sym old_rows)
@@ -208,11 +208,14 @@ module _ (t : Option Tables) (applied : ℕ) (s : Snapshot) (old new : ℕ → H
       three : (a b c : Bool) → a ≡ false → (a && b && c) ≡ false
       three a b c h = cc
 
-  pub bounded_size : bounded t g s ≡ count_of (λ e. is_new (old s.feed) e || is_limited s (old s.feed) (new s.feed) e) (entities_in s.feed s.bytes)
+  pub bounded_size : bounded t g s ≡ bounded_held s old new
   bounded_size =
       count_one s.feed (λ e. in_tested g s e || in_bounded t g s e) (λ e. is_new (old s.feed) e || is_limited s (old s.feed) (new s.feed) e) bounded_there bounded_else
       (entities (with g s)) (entities_at (with g s)) feed_limit is.feed
       ∙ ap (count_of (λ e. is_new (old s.feed) e || is_limited s (old s.feed) (new s.feed) e)) now_is
+
+  pub counts_are : AreCounts t g s old new
+  counts_are = record { tested_is = tested_size; paired_is = paired_size; bounded_is = bounded_size }
 
   -- what is owed of a delta makes it what the snapshot changes
   pub change_is : (d : Delta) → IsChange applied s old new d → IsDelta t g s (joined new) d

@@ -50,15 +50,33 @@ is_new old e = is_other (entities_of_snapshot old.last) e
 abbrev pub is_limited : Snapshot → HeldFeed → HeldFeed → Keyed → Bool
 is_limited s old new e = not (keeps_bounds s old.last) && (has_limit (list_under e.0 old.entities) || has_limit (list_under e.0 new.entities))
 
+-- how many entities of a snapshot are new or have another byte string
+abbrev pub tested_held : Snapshot → (ℕ → HeldFeed) → ℕ
+tested_held s old = count_of (is_new (old s.feed)) (entities_in s.feed s.bytes)
+
+-- how many of all feeds do so, or have a row that shares an id with one that came or went, or are of a kind whose counterpart got its first row
+-- or lost its last one
+abbrev pub paired_held : Snapshot → (ℕ → HeldFeed) → (ℕ → HeldFeed) → ℕ
+paired_held s old new =
+    count_of (λ e. (e.0.feed == s.feed && is_new (old s.feed) e) || is_paired (rows_held old) (rows_held new) (rows_of e.0 (entity_of e.1))) (below (λ f. entities_of_snapshot (new f).last) feed_limit)
+
+-- how many of the snapshot do so, or are limited
+abbrev pub bounded_held : Snapshot → (ℕ → HeldFeed) → (ℕ → HeldFeed) → ℕ
+bounded_held s old new = count_of (λ e. is_new (old s.feed) e || is_limited s (old s.feed) (new s.feed) e) (entities_in s.feed s.bytes)
+
 -- What is owed of a delta: how many snapshots were taken, how many entities there are, what opened and closed list by list, and
--- how many entities of the snapshot are new or have another byte string, how many of all feeds do so or have a row that shares
--- an id with one that came or went, and how many of the snapshot do so or are limited.
+-- the three counts.
 pub record IsChange (applied : ℕ) (s : Snapshot) (old new : ℕ → HeldFeed) (d : Delta) : Type 0 where
   pub snapshot_is : d.snapshot ≡ applied
   pub entities_is : d.entities ≡ length (entity_payloads s.bytes)
   pub opened_is : d.opened ≡ below (λ f. opened_in (old f) (new f)) feed_limit
   pub closed_is : d.closed ≡ below (λ f. closed_in (old f) (new f)) feed_limit
-  pub tested_is : d.tested ≡ count_of (is_new (old s.feed)) (entities_in s.feed s.bytes)
-  pub paired_is : d.paired ≡ count_of (λ e. (e.0.feed == s.feed && is_new (old s.feed) e) || is_paired (rows_held old) (rows_held new) (rows_of e.0 (entity_of e.1)))
-      (below (λ f. entities_of_snapshot (new f).last) feed_limit)
-  pub bounded_is : d.bounded ≡ count_of (λ e. is_new (old s.feed) e || is_limited s (old s.feed) (new s.feed) e) (entities_in s.feed s.bytes)
+  pub tested_is : d.tested ≡ tested_held s old
+  pub paired_is : d.paired ≡ paired_held s old new
+  pub bounded_is : d.bounded ≡ bounded_held s old new
+
+-- The counts of a snapshot after a history are those by what is held of each feed before it and after it.
+pub record AreCounts (t : Option Tables) (g : List Snapshot) (s : Snapshot) (old new : ℕ → HeldFeed) : Type 0 where
+  pub tested_is : tested g s ≡ tested_held s old
+  pub paired_is : paired g s ≡ paired_held s old new
+  pub bounded_is : bounded t g s ≡ bounded_held s old new

@@ -144,6 +144,22 @@ pub record IsNext (t : Option Tables) (applied : ℕ) (s : Snapshot) (old new : 
   -- each entity of each feed is judged with the rows as they are now
   pub entities : (f : ℕ) → (new f).entities ≡ renewed_lists (old f).entities applied (entities_found t (rows_held new) (new f).last)
 
+-- ---- The same as one answer: what is held of each feed once a snapshot s was taken.
+-- the last snapshot of a feed then
+abbrev pub last_after : Snapshot → (ℕ → HeldFeed) → ℕ → Option Snapshot
+last_after s old f = if s.feed == f then Some s else (old f).last
+
+-- the pairing rows of all feeds then
+abbrev pub rows_after : Snapshot → (ℕ → HeldFeed) → List PairRow
+rows_after s old = below (λ f. rows_in (entities_of_snapshot (last_after s old f))) feed_limit
+
+abbrev pub held_after : Option Tables → ℕ → Snapshot → (ℕ → HeldFeed) → ℕ → HeldFeed
+held_after t applied s old f = record {
+  last = last_after s old f;
+  header = if s.feed == f then renewed (old f).header applied (head_found s (old f).last) else (old f).header;
+  entities = renewed_lists (old f).entities applied (entities_found t (rows_after s old) (last_after s old f));
+}
+
 -- ---- what a snapshot opens and closes, header by header and entity by entity
 abbrev pub opened_in : HeldFeed → HeldFeed → List Standing
 opened_in old new = opened (findings_of old.header) new.header ++ flat_map (λ c. opened (findings_of (list_under c.0 old.entities)) c.1) new.entities

@@ -11,14 +11,14 @@ use Rattle.rule_table.specs.declared.key.EntityKey.{EntityKey}
 use Rattle.feed_values.specs.Schema.{Value}
 use Rattle.feed_values.specs.Messages.{entity}
 use Rattle.feed_values.specs.Snapshot.{entity_of}
-use Rattle.rule_history.specs.History.{Snapshot, Keyed, entities, now, before, below, feed_limit}
+use Rattle.rule_history.specs.History.{Snapshot, Keyed, entities, entities_of_snapshot, now, before, below, feed_limit}
 use Rattle.rule_history.specs.Answered.{rows, payload_under, feed_answer}
 use Rattle.rule_history.specs.Findings.{findings}
-use Rattle.rule_history.specs.Changed.{with, changed_rows, in_paired}
+use Rattle.rule_history.specs.Changed.{with, changed_rows, is_paired, in_paired}
 use Rattle.rule_history.specs.Standing.{Standing, IsSince, stands, stands_after, opened, closed}
-use Rattle.engine_laws.specs.Delta.{Delta, IsDelta, IsChange}
+use Rattle.engine_laws.specs.Delta.{Delta, IsDelta, IsChange, AreCounts}
 use Rattle.engine_laws.specs.Order.{found_cmp, Rises}
-use Rattle.engine_laws.specs.HeldFeeds.{HeldFeed, feed_at, data_of, AreOwn, IsJoined, KeyedFindings, AreFoundAt, joined, found_list, feed_found, renewed_lists, IsNext, opened_in, closed_in}
+use Rattle.engine_laws.specs.HeldFeeds.{HeldFeed, feed_at, data_of, AreOwn, IsJoined, KeyedFindings, AreFoundAt, joined, found_list, feed_found, renewed_lists, IsNext, held_after, rows_held, opened_in, closed_in}
 use Rattle.engine_laws.specs.Rows.{row_cmp}
 use Rattle.engine_laws.specs.Seats.{LosesNone}
 use Rattle.engine_laws.specs.Standings.{Held, StandsFor, IsListOf, findings_of, renewed}
@@ -97,6 +97,13 @@ PairingStays = (find : List PairRow → EntityKey → Value entity → List Foun
     payload_under e.0 (entities g e.0.feed) ≡ Some e.1 → payload_under e.0 (entities (with g s) e.0.feed) ≡ Some e.1 → in_paired g s e ≡ false →
     find (rows g) e.0 (entity_of e.1) ≡ find (rows (with g s)) e.0 (entity_of e.1)
 
+-- The same by what is held of each feed before and after, with no history at hand.
+abbrev pub PairingKeeps : Type 0
+PairingKeeps = (find : List PairRow → EntityKey → Value entity → List Found) → ((u v : List PairRow) (k : EntityKey) (e : Value entity) → Agree u v k e → find u k e ≡ find v k e) →
+    ((u : List PairRow) (k : EntityKey) (e : Value entity) → rows_of k e ≡ [] → find u k e ≡ []) → (old new : ℕ → HeldFeed) → AreOwn old → AreOwn new → (e : Keyed) → e.0.feed < feed_limit →
+    payload_under e.0 (entities_of_snapshot (old e.0.feed).last) ≡ Some e.1 → payload_under e.0 (entities_of_snapshot (new e.0.feed).last) ≡ Some e.1 →
+    is_paired (rows_held old) (rows_held new) (rows_of e.0 (entity_of e.1)) ≡ false → find (rows_held old) e.0 (entity_of e.1) ≡ find (rows_held new) e.0 (entity_of e.1)
+
 -- ---- engines
 -- What holds nothing stands for its timetable and the history without snapshots.
 abbrev pub NothingStands : Type 0
@@ -119,3 +126,13 @@ NextStands = (e later : Held) (s : Snapshot) (old new : ℕ → HeldFeed) → Ar
 abbrev pub NextChanges : Type 0
 NextChanges = (e later : Held) (s : Snapshot) (old new : ℕ → HeldFeed) → AreOwn old → IsJoined e old → IsJoined later new →
     IsNext e.table e.applied s old new → (d : Delta) → IsChange e.applied s old new d → (t : Option Tables) (h : List Snapshot) → StandsFor e t h → IsDelta t h s later.list d
+
+-- What is owed is one thing: the computed answer meets the equations, and nothing else does.
+pub record NextIsComputed : Type 0 where
+  pub is_next : (t : Option Tables) (applied : ℕ) (s : Snapshot) (old : ℕ → HeldFeed) → s.feed < feed_limit → IsNext t applied s old (held_after t applied s old)
+  pub is_only : (t : Option Tables) (applied : ℕ) (s : Snapshot) (old new : ℕ → HeldFeed) → IsNext t applied s old new → (f : ℕ) → new f ≡ held_after t applied s old f
+
+-- So how many entities a snapshot concerns is told by what is held before it alone, also where no engine for the longer history is there.
+abbrev pub CountsAreHeld : Type 0
+CountsAreHeld = (e : Held) (s : Snapshot) (old : ℕ → HeldFeed) → AreOwn old → IsJoined e old → s.feed < feed_limit → (t : Option Tables) (h : List Snapshot) → StandsFor e t h →
+    AreCounts t h s old (held_after e.table e.applied s old)

@@ -2,7 +2,7 @@
 //! timetable and every history.
 ghost use Rattle.engine_laws.specs.Computed.{DeltaIsComputed, FirstIsNew, ListIsComputed};
 ghost use Rattle.engine_laws.specs.Walk.{WalkCloses, WalkOpens, WalkRenews};
-ghost use Rattle.engine_laws.specs.Laws.{PairingStays, DataAreJoined, FindingsRise, FindingsAreParts, HeadersStay, NoneIsLost, SinceGoesOn, SinceStarts, ListGoesOn, PartsRenew, PartsOpen, PartsClose, RowsRise, RowsStay, RowsAgree, NothingStands, NextIsOwn, NextStands, NextChanges};
+ghost use Rattle.engine_laws.specs.Laws.{PairingStays, PairingKeeps, NextIsComputed, CountsAreHeld, DataAreJoined, FindingsRise, FindingsAreParts, HeadersStay, NoneIsLost, SinceGoesOn, SinceStarts, ListGoesOn, PartsRenew, PartsOpen, PartsClose, RowsRise, RowsStay, RowsAgree, NothingStands, NextIsOwn, NextStands, NextChanges};
 
 /// The findings after a history are in order: by feed, header before entities, id, occurrence, rule, slot, index. So no rule
 /// stands twice at a place.
@@ -103,6 +103,11 @@ pub fn pairing_stays()
     ensures { PairingStays }
 {}
 
+/// So it does by what is held of each feed before and after, with no history at hand.
+pub fn pairing_keeps()
+    ensures { PairingKeeps }
+{}
+
 /// What holds nothing stands for the history without snapshots.
 #[tactic(auto, using(crate::proofs::Proved::nothing_stands))]
 pub fn nothing_stands()
@@ -128,6 +133,17 @@ pub fn next_stands()
 /// And its delta is what the snapshot opened and closed, and how many entities it concerned.
 pub fn next_changes()
     ensures { NextChanges }
+{}
+
+/// What is owed for a snapshot is one thing, which is computed of what is held before it.
+#[tactic(auto, using(crate::proofs::Proved::next_is_computed))]
+pub fn next_is_computed()
+    ensures { NextIsComputed }
+{}
+
+/// So are the three counts of the entities that it concerns, also where no engine for the longer history is there.
+pub fn counts_are_held()
+    ensures { CountsAreHeld }
 {}
 
 /// The computed list of a history is the one list that has its findings, each with the number since when its rule stands.

@@ -10,8 +10,9 @@
 mod laws;
 
 pub use laws::{
-    data_are_joined, delta_is_computed, findings_are_parts, findings_rise, first_is_new,
-    headers_stay, list_goes_on, list_is_computed, next_changes, next_is_own, next_stands,
-    none_is_lost, nothing_stands, pairing_stays, parts_close, parts_open, parts_renew, rows_agree,
-    rows_rise, rows_stay, since_goes_on, since_starts, walk_closes, walk_opens, walk_renews,
+    counts_are_held, data_are_joined, delta_is_computed, findings_are_parts, findings_rise,
+    first_is_new, headers_stay, list_goes_on, list_is_computed, next_changes, next_is_computed,
+    next_is_own, next_stands, none_is_lost, nothing_stands, pairing_keeps, pairing_stays,
+    parts_close, parts_open, parts_renew, rows_agree, rows_rise, rows_stay, since_goes_on,
+    since_starts, walk_closes, walk_opens, walk_renews,
 };
