@@ -7,6 +7,7 @@ ghost use Rattle.rule_table.specs.Rows.{slots_at};
 ghost use Rattle.rule_table.specs.Passed.{passes};
 ghost use Rattle.rule_table.specs.Cited.{values_of};
 ghost use Rattle.rule_table.specs.Broken.{Breaks, IsPlace, IsFormed};
+ghost use Rattle.evidence.specs.DoesBreak.{does_break};
 
 use feed_values::{CellRef, Items, Slot};
 use rule_table::{
@@ -18,10 +19,15 @@ use rule_table::{
 /// order, with the keys that the values before them give, each number lies from -2^63 to 2^64 - 1, and the values pass the
 /// row's test.
 pub fn breaks(rule: RuleId, place: &Place, facts: &Items<Fact>) -> bool
-    ensures { IsTrue result ↔ Breaks rule place.now facts.now }
+    ensures exact { IsTrue result ↔ Breaks rule place.now facts.now }
+    ensures value { result ≡ does_break rule place.now facts.now }
 {
-    let facts = facts.as_slice();
-    let place = place.borrowed();
+    is_broken(rule, place.borrowed(), facts.as_slice())
+}
+
+fn is_broken(rule: RuleId, place: PlaceRef<'_>, facts: &[Fact]) -> bool
+    ensures { IsTrue result ↔ Breaks rule (place_value place.entry) facts.now }
+{
     is_place(rule, place)
         && is_formed(place, cites_at(rule, place), facts)
         && do_pass(place, test_at(rule, place), facts)

@@ -7,10 +7,9 @@ use Rattle.json.specs.Tree.{items_tokens}
 use Rattle.json.specs.Written.{Written, Writes}
 use Rattle.serde_json.specs.Data.{Data, string}
 use Rattle.serde_json.specs.View.{items_of}
-use Rattle.serde_json.specs.Written.{items_outline}
+use Rattle.serde_json.specs.Written.{compact_text, items_outline}
 use Rattle.serde_json.proofs.Texts.{print-outline}
 use Rattle.rule_table.specs.declared.fact.Fact.{Fact}
-use Rattle.snapshot_lines.specs.Lines.{line_of}
 use Rattle.rt_report.specs.Findings.{fact_data}
 use Rattle.rt_report.specs.Tokens.{Adds, fact_tokens, tokens_of}
 
@@ -30,10 +29,10 @@ pub last : {E A : Type 0} (r : Result (Unit {0}) E) (a b : Written) (t : Token) 
 last (Ok x) a b t w f = f (record { before_is = w.room.0; tokens_are = w.ok })
 last (Err e) a b t w f = tt
 
--- a value's tokens, in a writer that began with nothing, are its line
-pub line_is : (d : Data) (first second : Written) (bytes line : List ℕ) → first.before ≡ [] → first.tokens ≡ [] → Adds first second (tokens_of d) → bytes ≡ second.before ++ print second.tokens → line ≡ bytes ++ 10 ∷ [] → line ≡ line_of d
-line_is d first second bytes line before tokens adds text end =
-    end ∙ ap (λ b. b ++ 10 ∷ []) (text ∙ ap (λ b. b ++ print second.tokens) (adds.before_is ∙ before) ∙ ap print (adds.tokens_are ∙ ap (λ ts. ts ++ tokens_of d) tokens) ∙ print-outline d)
+-- a value's tokens, in a writer that began with nothing, are its text
+pub text_is : (d : Data) (first second : Written) (bytes : List ℕ) → first.before ≡ [] → first.tokens ≡ [] → Adds first second (tokens_of d) → bytes ≡ second.before ++ print second.tokens → bytes ≡ compact_text d
+text_is d first second bytes before tokens adds text =
+    text ∙ ap (λ b. b ++ print second.tokens) (adds.before_is ∙ before) ∙ ap print (adds.tokens_are ∙ ap (λ ts. ts ++ tokens_of d) tokens) ∙ print-outline d
 
 -- ---- items
 -- the keys of an ask

@@ -1,8 +1,6 @@
 -- What is printed of findings, and how much they weigh.
-use Rattle.std.specs.Prelude.{◌≡◌, ◌++◌, ℕ, Bool, ◌||◌, List, Option, bytes_eq, codes}
+use Rattle.std.specs.Prelude.{◌≡◌, ◌++◌, ℕ, Bool, ◌||◌, List, bytes_eq, codes}
 use Rattle.std.specs.List.{list_any, flat_map}
-use Rattle.std.specs.Io.KnownBytes.{append_known}
-use Rattle.rt_outside.specs.Sink.{AppendsPrefix}
 use Rattle.rule_table.specs.declared.rule.RuleId.{RuleId}
 use Rattle.rule_table.specs.Rules.{level}
 use Rattle.rule_table.specs.Found.{Found}

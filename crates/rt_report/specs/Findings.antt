@@ -1,7 +1,7 @@
 -- The lines of findings, as JSON values. (JSON lines: each is the compact text of an object, its keys in byte order, and a line
 -- feed. This profile.)
 use Rattle.std.specs.Prelude.{ℕ, List, [], ◌∷◌, map, codes, decimal}
-use Rattle.serde_json.specs.Data.{Data, null, number, unsigned, string, array, object, member, no_members}
+use Rattle.serde_json.specs.Data.{Data, null, number, string, array, object, member, no_members}
 use Rattle.serde_json.specs.Find.{of_integer}
 use Rattle.serde_json.specs.View.{items_of}
 use Rattle.feed_values.specs.declared.cell_value.CellValue.{CellValue}

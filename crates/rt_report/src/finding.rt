@@ -4,9 +4,11 @@ ghost use Rattle.std.specs.List.{list_all};
 ghost use Rattle.json.specs.Token as token;
 ghost use Rattle.serde_json.specs.Data.{number};
 ghost use Rattle.serde_json.specs.Find.{of_integer};
+ghost use Rattle.serde_json.specs.Written.{compact_text};
+ghost use Rattle.std.specs.Str.{IsUtf8};
 ghost use Rattle.rule_table.specs.Asked.{in_range};
 ghost use Rattle.snapshot_lines.specs.Lines.{line_of};
-ghost use Rattle.rt_report.specs.Findings.{line_name, cell_data, fact_data, facts_data, entity_finding, finding_data, finding_at};
+ghost use Rattle.rt_report.specs.Findings.{line_name, cell_data, fact_data, facts_data, entity_finding, finding_data};
 ghost use Rattle.rule_table.specs.declared.place.Place.TheVariants as place;
 ghost use Rattle.rt_report.specs.Tokens.{Adds, tokens_of, fact_tokens, head_finding};
 
@@ -14,7 +16,7 @@ use crate::asked::{ask_name, push_keys};
 use crate::tokens::{push_count, push_text};
 use feed_values::{CellValue, Path, Slot};
 use json::Writer;
-use rule_table::{EntityKey, Fact, Finding, Place};
+use rule_table::{EntityKey, Fact, Finding, Place, RuleId};
 use std::alloc::{AllocError, Global};
 
 // How many bytes a line is given at first: what most lines need.
@@ -149,25 +151,24 @@ fn push_entity(
     out.end_object()
 }
 
-/// Appends a finding at a place on a header. The numbers of its facts are within the bounds of all answers, since they break its
-/// rule.
+/// Appends a finding at a place on a header.
 fn push_on_header(
     alloc: Global,
     out: &mut Writer,
     kind: LineKind,
-    finding: &Finding,
+    rule: RuleId,
+    facts: &[Fact],
     feed: u8,
     slot: Slot,
     since: u64,
 ) -> Result<(), AllocError>
-    ensures { OnOk result (Adds out.old out.new (tokens_of (finding_at kind finding.now since (place.Head feed slot)))) }
+    requires { list_all (λ f. in_range f.value) facts.now ≡ true }
+    ensures { OnOk result (Adds out.old out.new (tokens_of (finding_data kind (record { rule = rule; place = place.Head feed slot; facts = facts.now }) since))) }
 {
-    let facts = finding.facts().as_slice();
     let path = Path { slot, index: 0 };
     let path = path.text(alloc)?;
-    let level = finding.rule().level();
+    let level = rule.level();
     let line = line_name(kind);
-    let rule = finding.rule().name();
     push_head(
         alloc,
         out,
@@ -176,7 +177,7 @@ fn push_on_header(
         level,
         line,
         path.as_str(),
-        rule,
+        rule.name(),
         since,
     )
 }
@@ -186,19 +187,19 @@ fn push_at_entity(
     alloc: Global,
     out: &mut Writer,
     kind: LineKind,
-    finding: &Finding,
+    rule: RuleId,
+    facts: &[Fact],
     key: &EntityKey,
     path: Path,
     since: u64,
 ) -> Result<(), AllocError>
-    ensures { OnOk result (Adds out.old out.new (tokens_of (finding_at kind finding.now since (place.Entity key.now path)))) }
+    requires { list_all (λ f. in_range f.value) facts.now ≡ true }
+    ensures { OnOk result (Adds out.old out.new (tokens_of (finding_data kind (record { rule = rule; place = place.Entity key.now path; facts = facts.now }) since))) }
 {
-    let facts = finding.facts().as_slice();
     let path = path.text(alloc)?;
     let id = key.id.as_str();
-    let level = finding.rule().level();
+    let level = rule.level();
     let line = line_name(kind);
-    let rule = finding.rule().name();
     push_entity(
         alloc,
         out,
@@ -209,7 +210,7 @@ fn push_at_entity(
         line,
         key.occurrence,
         path.as_str(),
-        rule,
+        rule.name(),
         since,
     )
 }
@@ -218,15 +219,41 @@ fn push_finding(
     alloc: Global,
     out: &mut Writer,
     kind: LineKind,
-    finding: &Finding,
+    rule: RuleId,
+    place: &Place,
+    facts: &[Fact],
     since: u64,
 ) -> Result<(), AllocError>
-    ensures { OnOk result (Adds out.old out.new (tokens_of (finding_data kind finding.now since))) }
+    requires { list_all (λ f. in_range f.value) facts.now ≡ true }
+    ensures { OnOk result (Adds out.old out.new (tokens_of (finding_data kind (record { rule = rule; place = place.now; facts = facts.now }) since))) }
 {
-    match finding.place() {
-        Place::Head(feed, slot) => push_on_header(alloc, out, kind, finding, *feed, *slot, since),
-        Place::Entity(key, path) => push_at_entity(alloc, out, kind, finding, key, *path, since),
+    match place {
+        Place::Head(feed, slot) => {
+            push_on_header(alloc, out, kind, rule, facts, *feed, *slot, since)
+        }
+        Place::Entity(key, path) => {
+            push_at_entity(alloc, out, kind, rule, facts, key, *path, since)
+        }
     }
+}
+
+/// The text of a finding's object, without a line feed. The facts need not break the rule at the place, so what a reader was
+/// told can be printed again; only their numbers lie from -2^63 to 2^64 - 1.
+pub fn finding_text(
+    alloc: Global,
+    line: LineKind,
+    rule: RuleId,
+    place: &Place,
+    facts: &[Fact],
+    since: u64,
+) -> Result<Vec<u8>, AllocError>
+    requires { list_all (λ f. in_range f.value) facts.now ≡ true }
+    ensures text { IfOk result (λ bytes. bytes.items ≡ compact_text (finding_data line (record { rule = rule; place = place.now; facts = facts.now }) since)) }
+    ensures utf8 { IfOk result (λ bytes. IsUtf8 bytes.items) }
+{
+    let mut out = Writer::new(Vec::with_capacity(alloc, ROOM)?);
+    push_finding(alloc, &mut out, line, rule, place, facts, since)?;
+    Ok(out.into_inner())
 }
 
 /// The line of a finding whose rule has stood at its place since the snapshot `since`, counted from 0.
@@ -238,9 +265,8 @@ pub fn finding_line(
 ) -> Result<Vec<u8>, AllocError>
     ensures { IfOk result (λ bytes. bytes.items ≡ line_of (finding_data line finding.now since)) }
 {
-    let mut out = Writer::new(Vec::with_capacity(alloc, ROOM)?);
-    push_finding(alloc, &mut out, line, finding, since)?;
-    let mut bytes = out.into_inner();
+    let facts = finding.facts().as_slice();
+    let mut bytes = finding_text(alloc, line, finding.rule(), finding.place(), facts, since)?;
     bytes.push(b'\n')?;
     Ok(bytes)
 }

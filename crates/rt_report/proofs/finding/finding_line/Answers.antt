@@ -1,9 +1,9 @@
-use Rattle.std.proofs.Common.{◌∙◌}
-use Rattle.rt_report.specs.Findings.{finding_data}
-use Rattle.rt_report.proofs.Given.{line_is}
+use Rattle.std.proofs.Common.{[]}
+use Rattle.rule_table.specs.Rows.{cites_at}
+use Rattle.rt_report.proofs.Ranges.{formed_in_range}
 use Rattle.rt_report.proofs.finding.finding_line.Goals as goal
 
-pub returns : goal.returns
-returns c =
-    line_is (finding_data c.args.line c.args.finding.now c.args.since) c.new-out.result c.push_finding.new.out c.into_inner-bytes.result.items c.push.new.self.items
-    (c.new-out.ensures.before ∙ c.in_ok-with_capacity.ensures.items) c.new-out.ensures.tokens c.in_ok-push_finding.ensures c.into_inner-bytes.ensures.items c.in_ok-push.ensures.items
+pub finding_text-requires : goal.finding_text-requires
+finding_text-requires c =
+    let broken = c.facts.ensures.breaks in
+    rw (c.as_slice-facts.ensures, c.facts.ensures.facts) (formed_in_range c.args.finding.now.place [] (cites_at c.args.finding.now.rule c.args.finding.now.place) c.args.finding.now.facts broken.formed)

@@ -1,0 +1,5 @@
+pub mod NameLemmas
+pub mod NumberLemmas
+pub mod PathLemmas
+pub mod AskLemmas
+pub mod WithinLemmas

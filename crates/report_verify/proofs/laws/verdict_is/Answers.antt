@@ -1,0 +1,5 @@
+use Rattle.report_verify.proofs.VerdictLemmas.{verdict_is_lem}
+use Rattle.report_verify.proofs.laws.verdict_is.Goals as goal
+
+pub returns : goal.returns
+returns c = verdict_is_lem

@@ -1,0 +1,4 @@
+pub mod Verdicts
+pub mod Spelled
+pub mod Said
+pub mod Laws

@@ -1,9 +1,0 @@
-use Rattle.std.proofs.Common.{[]}
-use Rattle.rule_table.specs.Rows.{cites_at}
-use Rattle.rt_report.proofs.Ranges.{formed_in_range}
-use Rattle.rt_report.proofs.finding.push_at_entity.Goals as goal
-
-pub push_entity-requires : goal.push_entity-requires
-push_entity-requires c =
-    let broken = c.facts.ensures.breaks in
-    rw (c.as_slice-facts.ensures, c.facts.ensures.facts) (formed_in_range c.args.finding.now.place [] (cites_at c.args.finding.now.rule c.args.finding.now.place) c.args.finding.now.facts broken.formed)

@@ -1,0 +1,4 @@
+pub mod Verified
+pub mod Lines
+pub mod Sending
+pub mod Judged
