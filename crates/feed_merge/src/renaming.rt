@@ -1,5 +1,5 @@
 //! Entities under their ids in the union.
-ghost use Rattle.std.specs.Prelude.{◌≡◌, ◌++◌, ◌∷◌, [], map, string_bytes, IfOk, OnOk};
+ghost use Rattle.std.specs.Prelude.{◌≡◌, ◌++◌, map, string_bytes, IfOk, OnOk};
 ghost use Rattle.feed_values.specs.Views.{entity_value};
 ghost use Rattle.feed_merge.specs.Union.{prefix, prefixed, renamed};
 
@@ -31,16 +31,6 @@ fn renamed(alloc: Global, prefix: &str, entity: &Entity) -> Result<Entity, Alloc
     Ok(copy)
 }
 
-// Appends an item, which is given up where no memory is found.
-fn push<T: Drop>(items: &mut Items<T>, item: T) -> Result<(), AllocError>
-    ensures { OnOk result (items.new ≡ items.old ++ item ∷ []) }
-{
-    match items.push(item) {
-        Ok(()) => Ok(()),
-        Err(_) => Err(AllocError),
-    }
-}
-
 /// Appends the entities of the feed of this number, each under its id in the union.
 pub fn push_entities(
     alloc: Global,
@@ -53,7 +43,7 @@ pub fn push_entities(
 {
     let prefix = prefix(alloc, feed)?;
     for entity in held.as_slice() {
-        push(entities, renamed(alloc, prefix.as_str(), entity)?)?;
+        entities.push(renamed(alloc, prefix.as_str(), entity)?)?;
     }
     Ok(())
 }

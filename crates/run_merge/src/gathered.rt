@@ -43,21 +43,11 @@ impl Gathered {
             ≡ self.old.refused.items ++ refused_lines number (found_value found ∷ [])) }
     {
         match found {
-            Ok(message) => push(&mut self.feeds, message),
+            Ok(message) => Ok(self.feeds.push(message)?),
             Err(refusal) => {
                 let line = refused_line(alloc, number, &refusal)?;
                 self.refused.extend_from_slice(&line)
             }
         }
-    }
-}
-
-// Appends an item, which is given up where no memory is found.
-fn push<T: Drop>(items: &mut Items<T>, item: T) -> Result<(), AllocError>
-    ensures { OnOk result (items.new ≡ items.old ++ item ∷ []) }
-{
-    match items.push(item) {
-        Ok(()) => Ok(()),
-        Err(_) => Err(AllocError),
     }
 }
