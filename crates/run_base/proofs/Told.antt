@@ -5,7 +5,7 @@ use Rattle.std.specs.Io.KnownBytes.{append_known}
 use Rattle.rt_outside.specs.Sink.{SinkState}
 use Rattle.run_base.specs.declared.status.Status.{Status}
 use Rattle.run_base.specs.declared.status.Status.TheVariants as answer
-use Rattle.run_base.specs.Faults.{TellsOneOf, IsErrorText, says_memory, says_write_fault, says_read_fault, says_refused, says_bad_zone, Says}
+use Rattle.run_base.specs.Faults.{TellsOneOf, IsErrorText, says_memory, says_write_fault, says_read_fault, says_refused, says_bad_zone, says_large_union, Says}
 
 -- a text that may stand there was said
 pub tells : (may reads : List ℕ → Type 0) (last : Option (List ℕ)) (before after : SinkState) (text : List ℕ) (meant result : Status) →
@@ -23,6 +23,7 @@ error_text_more reads more text reading says_write_fault = says_write_fault
 error_text_more reads more text reading (says_read_fault name is) = says_read_fault name (reading name is)
 error_text_more reads more text reading (says_refused name why is) = says_refused name why (reading name is)
 error_text_more reads more text reading says_bad_zone = says_bad_zone
+error_text_more reads more text reading says_large_union = says_large_union
 
 -- and what a fault tells still does
 pub tells_more : (may more_may reads more : List ℕ → Type 0) (last : Option (List ℕ)) (before after : SinkState) (result : Status) →

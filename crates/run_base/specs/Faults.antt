@@ -25,6 +25,10 @@ refused_text name why = codes "refused: " ++ name ++ codes ": " ++ why ++ codes 
 abbrev pub bad_zone_text : List ℕ
 bad_zone_text = refused_text (codes "zone") (codes "bad zone")
 
+-- the union of feeds is refused where it has more bytes than a snapshot may have; no file has that name
+abbrev pub large_union_text : List ℕ
+large_union_text = refused_text (codes "merged") (codes "too large")
+
 -- the texts of a command that may stand on the error stream, where these files are read
 pub data IsErrorText (reads : List ℕ → Type 0) : List ℕ → Type 0 where
   says_memory : IsErrorText reads memory_text
@@ -32,6 +36,7 @@ pub data IsErrorText (reads : List ℕ → Type 0) : List ℕ → Type 0 where
   says_read_fault : (name : List ℕ) → reads name → IsErrorText reads (read_fault_text name)
   says_refused : (name why : List ℕ) → reads name → IsErrorText reads (refused_text name why)
   says_bad_zone : IsErrorText reads bad_zone_text
+  says_large_union : IsErrorText reads large_union_text
 
 -- What was appended to the error stream with an answer that tells a fault. A read fault names a file that is read,
 -- and the one last asked for, where that is told. Where the error stream failed too, a prefix of one of the texts stands there

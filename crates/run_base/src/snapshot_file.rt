@@ -3,6 +3,8 @@ ghost use Rattle.std.specs.Prelude.{◌≡◌, ◌≤◌, ℕ, List, Err, IfSome
 ghost use Rattle.std.specs.FinMap.{get};
 ghost use Rattle.rt_outside.specs.Causes.{Rose};
 ghost use Rattle.rt_outside.specs.Store.{contents_told, left};
+ghost use Rattle.feed_values.specs.Views.{feed_message_value};
+ghost use Rattle.feed_values.specs.WellFormed.{IsWellFormedFeed};
 ghost use Rattle.feed_codec.specs.Refusal.{refusal, refused};
 ghost use Rattle.feed_stream.specs.Came.{Came};
 ghost use Rattle.run_base.specs.Found.{found_value, snapshot_in, decoded};
@@ -22,7 +24,7 @@ const PIECE: usize = 65536;
 
 /// The snapshot in the file of this name, or why it is refused. A file that isn't there is a refused snapshot.
 ///
-/// The bytes of the file are given up once they are decoded.
+/// The bytes of the file are given up once they are decoded. What is given can be written again.
 pub fn read_snapshot<F: Files>(
     alloc: Global,
     files: &mut F,
@@ -30,6 +32,8 @@ pub fn read_snapshot<F: Files>(
 ) -> Result<Result<FeedMessage, Refusal>, Fault>
     ensures found { IfSome (contents_told (F.state files.old).told)
         (λ held. IfOk result (λ found. snapshot_in (get held file.now) ≡ found_value found)) }
+    ensures well_formed { IfOk result (λ found. IfOk found (λ message. IsWellFormedFeed (feed_message_value message))) }
+    ensures contents { contents_told (F.state files.new).told ≡ contents_told (F.state files.old).told }
     ensures asked { IfSome (F.state files.new).asked (λ last. last ≡ file.now) }
     ensures later { (F.state files.old).faults ≤ (F.state files.new).faults }
     ensures read { IsErrOf result Fault.Read → Rose (F.state files.old).faults (F.state files.new).faults }
@@ -53,6 +57,7 @@ fn refusal(at: usize, reason: Reason) -> Refusal
 // What the bytes of a snapshot mean, or why they are refused.
 fn decoded(alloc: Global, bytes: &[u8]) -> Result<Result<FeedMessage, Refusal>, Fault>
     ensures found { IfOk result (λ found. decoded bytes.now (refusal bytes.now) ≡ found_value found) }
+    ensures well_formed { IfOk result (λ found. IfOk found (λ message. IsWellFormedFeed (feed_message_value message))) }
     ensures memory { IfErr result (λ e. e ≡ Fault.Memory) }
 {
     match decode(alloc, bytes) {

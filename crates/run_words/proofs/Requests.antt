@@ -11,10 +11,10 @@ use Rattle.feed_list.specs.Values.{is_path, path_of, number_of}
 use Rattle.run_words.specs.declared.command.Command.{Command}
 use Rattle.run_words.specs.declared.command.Command.TheVariants as command
 use Rattle.run_words.specs.declared.request.Request.{Request}
-use Rattle.run_words.specs.declared.request.Request.TheVariants.{Check, Follow, Predict, Show, Encode, Trial}
+use Rattle.run_words.specs.declared.request.Request.TheVariants.{Check, Follow, Predict, Show, Encode, Merge, Trial}
 use Rattle.run_words.specs.declared.options.Options.{Options}
 use Rattle.run_words.specs.declared.zone_word.ZoneWord.{ZoneWord}
-use Rattle.run_words.specs.Words.{request, no_options, are_files, check_of, file_limit, files_in, follow_of, predict_of, predicted, one_file, asked_of, options_of, file_of, trial_of, with_option, NamesFiles}
+use Rattle.run_words.specs.Words.{request, no_options, are_files, check_of, file_limit, files_in, follow_of, predict_of, predicted, one_file, asked_of, options_of, file_of, merge_of, trial_of, with_option, NamesFiles}
 
 -- ---- a request names no more files than there are feeds
 either_of : (b : Bool) (so other : Option Request) (asked : Request) → (Some asked ≡ so → NamesFiles asked) → (Some asked ≡ other → NamesFiles asked)
@@ -96,6 +96,9 @@ options_has name options (word ∷ value ∷ words) asked e =
     either_of (is_path word) (asked_of name options (word ∷ value ∷ words)) _ asked (asked_has name options (word ∷ value ∷ words) asked)
     (after_option (with_option options word value) (λ more. options_of name more words) asked (λ more. options_has name more words asked)) e
 
+merge_has : (words : List (List ℕ)) (asked : Request) → Some asked ≡ merge_of words → NamesFiles asked
+merge_has words asked e = given_has (are_files words) Merge words asked (few_files words) e
+
 trial_has : (words : List (List ℕ)) (asked : Request) → Some asked ≡ trial_of words → NamesFiles asked
 trial_has [] asked e = none asked e
 trial_has (word ∷ []) asked e = number_has (number_of word) asked e
@@ -116,7 +119,8 @@ request_names_files (name ∷ words) asked e =
     (either_of (bytes_eq name (codes "predict")) (options_of command.Predict no_options words) _ asked (options_has command.Predict no_options words asked)
     (either_of (bytes_eq name (codes "show")) (file_of Show words) _ asked (file_has Show (λ file. tt) words asked)
     (either_of (bytes_eq name (codes "encode")) (file_of Encode words) _ asked (file_has Encode (λ file. tt) words asked)
-    (either_of (bytes_eq name (codes "trial")) (trial_of words) None asked (trial_has words asked) (none asked)))))) e
+    (either_of (bytes_eq name (codes "merge")) (merge_of words) _ asked (merge_has words asked)
+    (either_of (bytes_eq name (codes "trial")) (trial_of words) None asked (trial_has words asked) (none asked))))))) e
 
 -- ---- words behind options
 -- fewer than two words hold no option and its value

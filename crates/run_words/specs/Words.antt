@@ -9,7 +9,7 @@ use Rattle.run_words.specs.declared.options.Options.{Options}
 use Rattle.run_words.specs.declared.zone_word.ZoneWord.{ZoneWord}
 use Rattle.run_words.specs.declared.zone_word.ZoneWord.TheVariants.{Rule, File}
 use Rattle.run_words.specs.declared.request.Request.{Request}
-use Rattle.run_words.specs.declared.request.Request.TheVariants.{Check, Follow, Predict, Show, Encode, Trial}
+use Rattle.run_words.specs.declared.request.Request.TheVariants.{Check, Follow, Predict, Show, Encode, Merge, Trial}
 
 abbrev pub no_options : Options
 no_options = record { folder = None; moment = None; list = None; zone = None }
@@ -53,7 +53,7 @@ one_file [] = None
 one_file (file ∷ []) = path_of file
 one_file (file ∷ more ∷ words) = None
 
--- the most files that `check` takes, each the snapshot of a feed
+-- the most files that `check` and `merge` take, each the snapshot of a feed
 abbrev pub file_limit : ℕ
 file_limit = 16
 
@@ -96,6 +96,10 @@ options_of command options (name ∷ value ∷ words) =
 abbrev pub file_of : (List ℕ → Request) → List (List ℕ) → Option Request
 file_of ask words = option_map ask (one_file words)
 
+-- what stands after `merge`: files
+abbrev pub merge_of : List (List ℕ) → Option Request
+merge_of words = option_map Merge (files_in words)
+
 -- what stands after `trial`: one number
 abbrev pub trial_of : List (List ℕ) → Option Request
 trial_of [] = None
@@ -111,7 +115,8 @@ request (name ∷ words) =
     else (if bytes_eq name (codes "predict") then options_of command.Predict no_options words
     else (if bytes_eq name (codes "show") then file_of Show words
     else (if bytes_eq name (codes "encode") then file_of Encode words
-    else (if bytes_eq name (codes "trial") then trial_of words else None)))))
+    else (if bytes_eq name (codes "merge") then merge_of words
+    else (if bytes_eq name (codes "trial") then trial_of words else None))))))
 
 -- a request whose feeds can be numbered
 abbrev pub NamesFiles : Request → Type 0
@@ -120,4 +125,5 @@ NamesFiles (Follow folder list) = ⊤
 NamesFiles (Predict folder zone now file) = ⊤
 NamesFiles (Show file) = ⊤
 NamesFiles (Encode file) = ⊤
+NamesFiles (Merge files) = length files ≤ file_limit
 NamesFiles (Trial seed) = ⊤

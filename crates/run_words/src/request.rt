@@ -39,6 +39,10 @@ pub enum Request {
     Encode {
         file: Text,
     },
+    /// To write the snapshots in these files as one: the union of as many feeds, as its canonical bytes.
+    Merge {
+        files: Items<Text>,
+    },
     /// To make a timetable and the snapshots of two feeds from a number, to follow them and to sum up.
     Trial {
         seed: u64,

@@ -1,6 +1,6 @@
 //! The words of a command line.
 ghost use Rattle.std.specs.Prelude.{◌≡◌, IfOk, ◌∷◌, map, option_map, string_bytes};
-ghost use Rattle.run_words.specs.Words.{asked_of, check_of, files_in, follow_of, predict_of, predicted, one_file, options_of, file_of, trial_of, request};
+ghost use Rattle.run_words.specs.Words.{asked_of, check_of, files_in, follow_of, predict_of, predicted, one_file, options_of, file_of, merge_of, trial_of, request};
 ghost use Rattle.run_words.specs.declared.request.Request.TheVariants.{Show, Encode};
 
 use crate::command::Command;
@@ -11,7 +11,7 @@ use feed_list::{is_path, number_of};
 use feed_values::{Items, Text};
 use std::alloc::{AllocError, Global};
 
-/// The most files that `check` takes.
+/// The most files that `check` and `merge` take.
 const FILE_LIMIT: usize = 16;
 
 /// The request of the words after the program's name, or none where they give no request.
@@ -19,8 +19,9 @@ const FILE_LIMIT: usize = 16;
 /// These are `check` with 1 to 16 files, and before them `--timetable` with a folder and `--now` with a moment;
 /// `follow` with `--list` and a file, and `--timetable` with a folder; `predict` with one file, and before it `--timetable`
 /// with a folder, one of `--zone-rule` with a text and `--zone-file` with a file, and `--now` with a moment; `show` and
-/// `encode`, each with one file; and `trial` with a number. Options stand before the files in any order, each at most once. A
-/// number has 1 to 20 digits, and its value fits 64 bits. No file and no value of an option is empty or begins with a dash.
+/// `encode`, each with one file; `merge` with 1 to 16 files; and `trial` with a number. Options stand before the files in any order,
+/// each at most once. A number has 1 to 20 digits, and its value fits 64 bits. No file and no value of an option is empty or begins
+/// with a dash.
 pub fn words_of(alloc: Global, words: &[String]) -> Result<Option<Request>, AllocError>
     ensures { IfOk result (λ found. found ≡ request (map string_bytes words.now)) }
 {
@@ -44,6 +45,8 @@ fn request_of(alloc: Global, command: &str, words: &[String]) -> Result<Option<R
         Ok(file_of(alloc, words)?.map(|file| Request::Show { file }))
     } else if command == "encode" {
         Ok(file_of(alloc, words)?.map(|file| Request::Encode { file }))
+    } else if command == "merge" {
+        merge_of(alloc, words)
     } else if command == "trial" {
         Ok(trial_of(words))
     } else {
@@ -61,6 +64,16 @@ fn file_of(alloc: Global, words: &[String]) -> Result<Option<Text>, AllocError>
         [file] => path_of(alloc, file.as_str()),
         _ => Ok(None),
     }
+}
+
+// The request of the words after `merge`.
+fn merge_of(alloc: Global, words: &[String]) -> Result<Option<Request>, AllocError>
+    ensures { IfOk result (λ found. found ≡ merge_of (map string_bytes words.now)) }
+{
+    let Some(files) = files_of(alloc, words)? else {
+        return Ok(None);
+    };
+    Ok(Some(Request::Merge { files }))
 }
 
 // The request of the words after `trial`.

@@ -1,0 +1,6 @@
+pub mod Ids
+pub mod Stamps
+pub mod Kept
+pub mod Parts
+pub mod Formed
+pub mod Decoding
