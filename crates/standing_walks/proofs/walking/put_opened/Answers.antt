@@ -1,10 +1,10 @@
 use Rattle.std.proofs.Common.{◌≡◌, sym, ap, ◌∙◌, option_copied, drop, ◌++◌, ◌∷◌, [], true, false, arith}
 use Rattle.std.proofs.lemmas.List.{map-append}
-use Rattle.follow_engine.specs.Deltas.{all_opened, opened_value}
-use Rattle.follow_engine.specs.Walked.{met, after, was_same}
-use Rattle.follow_engine.proofs.Walked.{open_step, left_rises, rest_rises}
-use Rattle.follow_engine.proofs.walking.put_opened.Goals as goal
-use Rattle.follow_engine.proofs.walking.put_opened.Goals.{then-not-is_same+in_ok-to_opened+in_ok-push, else-not-is_same}
+use Rattle.standing_walks.specs.Changes.{all_opened, opened_value}
+use Rattle.standing_walks.specs.Walked.{met, after, was_same}
+use Rattle.standing_walks.proofs.Walked.{open_step, left_rises, rest_rises}
+use Rattle.standing_walks.proofs.walking.put_opened.Goals as goal
+use Rattle.standing_walks.proofs.walking.put_opened.Goals.{then-not-is_same+in_ok-to_opened+in_ok-push, else-not-is_same}
 
 pub loop-standing-preserved : goal.loop-standing-preserved
 loop-standing-preserved c =

@@ -1,15 +1,16 @@
 //! Findings since a snapshot.
 ghost use Rattle.std.specs.Prelude.{◌≡◌, IfOk};
-ghost use Rattle.follow_engine.specs.Deltas.{opened_value, closed_value, spot_of};
+ghost use Rattle.standing_walks.specs.Changes.{opened_value, closed_value, spot_of};
 
-use crate::delta::{Closed, Opened};
+use crate::changes::{Closed, Opened};
 use rule_table::Finding;
 use std::alloc::{AllocError, Global};
 use std::marker::Model;
 
-/// A finding, and the number of the snapshot since which its rule stands at its place.
+/// A finding, and the number of the snapshot since which its rule stands at its place, whatever the facts were meanwhile. Snapshots count
+/// from 0.
 #[derive(Drop)]
-pub(crate) struct Standing {
+pub struct Standing {
     finding: Finding,
     since: u64,
 }

@@ -1,8 +1,10 @@
-use Rattle.std.proofs.Common.{ap, ◌∙◌, subst, ◌∷◌, ◌++◌, [], List, unwrap_or}
+use Rattle.std.proofs.lemmas.Grind.{common_steps}
+use Rattle.std.proofs.Common.{ap, ◌∙◌, sym, subst, arith, ◌∷◌, ◌++◌, [], List, unwrap_or}
 use Rattle.rule_table.specs.Found.{Found}
 use Rattle.engine_laws.specs.Order.{found_cmp, Rises}
-use Rattle.follow_engine.proofs.Walked.{renew_step, left_rises}
-use Rattle.follow_engine.proofs.walking.renew.Goals as goal
+use Rattle.standing_walks.specs.Walked.{IsInOrder}
+use Rattle.standing_walks.proofs.Walked.{left_rises, renew_step, renewed_rises}
+use Rattle.standing_walks.proofs.walking.renew.Goals as goal
 
 pub loop-finding-preserved : goal.loop-finding-preserved
 loop-finding-preserved c =
@@ -14,3 +16,9 @@ loop-finding-preserved c =
       found_rises = (subst (λ (xs : List Found). Rises found_cmp xs) c.in-Some.ensures.steps.0 i.found_rises).1;
       within = c.meet-met.ensures.within;
     }
+
+pub returns-clause-list : goal.returns-clause-list
+returns-clause-list c = grind (arith, common_steps)
+
+pub returns-clause-ordered : goal.returns-clause-ordered
+returns-clause-ordered c = subst IsInOrder (sym (returns-clause-list c)) (renewed_rises c.args.old.now c.args.applied c.args.found c.requires.found)

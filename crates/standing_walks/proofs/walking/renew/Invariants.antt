@@ -1,7 +1,7 @@
 use Rattle.std.proofs.Common.{◌≡◌, ◌≤◌, ◌++◌, drop, length}
 use Rattle.engine_laws.specs.Order.{found_cmp, Rises}
 use Rattle.engine_laws.specs.Standings.{findings_of, renewed}
-use Rattle.follow_engine.proofs.walking.renew.Given as goal
+use Rattle.standing_walks.proofs.walking.renew.Given as goal
 
 -- the standings so far, and what is left renewed by what is left
 abbrev pub invariant-loop-finding : goal.invariant-loop-finding

@@ -1,10 +1,10 @@
 use Rattle.std.proofs.Common.{◌≡◌, sym, ap, ◌∙◌, not, is_some, option_copied, drop, ◌++◌, ◌∷◌, [], true, false, arith}
 use Rattle.std.proofs.lemmas.List.{map-append}
-use Rattle.follow_engine.specs.Deltas.{all_closed, closed_value}
-use Rattle.follow_engine.specs.Walked.{met, after}
-use Rattle.follow_engine.proofs.Walked.{close_step, left_rises, rest_rises, copied_some}
-use Rattle.follow_engine.proofs.walking.put_closed.Goals as goal
-use Rattle.follow_engine.proofs.walking.put_closed.Goals.{then-is_none+in_ok-to_closed+in_ok-push, else-is_none}
+use Rattle.standing_walks.specs.Changes.{all_closed, closed_value}
+use Rattle.standing_walks.specs.Walked.{met, after}
+use Rattle.standing_walks.proofs.Walked.{close_step, left_rises, rest_rises, copied_some}
+use Rattle.standing_walks.proofs.walking.put_closed.Goals as goal
+use Rattle.standing_walks.proofs.walking.put_closed.Goals.{then-is_none+in_ok-to_closed+in_ok-push, else-is_none}
 
 pub loop-standing-preserved : goal.loop-standing-preserved
 loop-standing-preserved c =

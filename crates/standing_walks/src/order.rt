@@ -24,8 +24,9 @@ fn compare_holders(a: &Place, b: &Place) -> Ordering
     }
 }
 
-/// Findings go by feed, header or entity, rule, slot and index.
-pub(crate) fn compare(a: &Finding, b: &Finding) -> Ordering
+/// The order of findings: by feed, then its header before its entities and these by id and occurrence, then by the rule's text, by slot
+/// and by index. It doesn't look at facts.
+pub fn compare_findings(a: &Finding, b: &Finding) -> Ordering
     ensures { result ≡ found_cmp a.now b.now }
 {
     let place = a.place();

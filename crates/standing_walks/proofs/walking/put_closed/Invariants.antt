@@ -2,8 +2,8 @@ use Rattle.std.proofs.Common.{◌≡◌, ◌≤◌, ◌++◌, drop, length}
 use Rattle.rule_history.specs.Standing.{closed}
 use Rattle.engine_laws.specs.Order.{found_cmp, Rises}
 use Rattle.engine_laws.specs.Standings.{findings_of}
-use Rattle.follow_engine.specs.Deltas.{all_closed}
-use Rattle.follow_engine.proofs.walking.put_closed.Given as goal
+use Rattle.standing_walks.specs.Changes.{all_closed}
+use Rattle.standing_walks.proofs.walking.put_closed.Given as goal
 
 abbrev pub invariant-loop-standing : goal.invariant-loop-standing
 invariant-loop-standing l =

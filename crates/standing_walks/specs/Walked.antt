@@ -1,10 +1,14 @@
--- A list of standings gone along beside a finding.
+-- Lists of standings in the order of their findings, gone along beside a finding.
 use Rattle.std.specs.Prelude.{Bool, false, List, [], ◌∷◌, Option, Some, None}
 use Rattle.std.specs.Ordering.{match_ordering}
 use Rattle.rule_table.specs.Found.{Found}
 use Rattle.rule_history.specs.Standing.{Standing}
 use Rattle.rule_table.specs.SameFacts.{same_facts}
-use Rattle.engine_laws.specs.Order.{found_cmp}
+use Rattle.engine_laws.specs.Order.{found_cmp, Rises}
+use Rattle.engine_laws.specs.Standings.{findings_of}
+
+abbrev pub IsInOrder : List Standing → Type 0
+IsInOrder xs = Rises found_cmp (findings_of xs)
 
 -- the first standing that doesn't come before a finding, where it is of the same rule and place
 abbrev pub met : Found → List Standing → Option Standing

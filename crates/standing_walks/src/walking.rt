@@ -1,13 +1,13 @@
-//! Lists of findings in order, compared by one walk.
+//! Lists of findings in order, compared by one walk over both.
 ghost use Rattle.std.specs.Prelude.{◌≡◌, ◌≤◌, ◌++◌, drop, length, option_copied, option_map, IfOk, OnOk};
 ghost use Rattle.rule_history.specs.Standing.{opened, closed};
 ghost use Rattle.engine_laws.specs.Order.{found_cmp, Rises};
 ghost use Rattle.engine_laws.specs.Standings.{findings_of, renewed};
-ghost use Rattle.follow_engine.specs.Deltas.{all_opened, all_closed};
-ghost use Rattle.follow_engine.specs.Walked.{met, after, was_same};
+ghost use Rattle.standing_walks.specs.Changes.{all_opened, all_closed};
+ghost use Rattle.standing_walks.specs.Walked.{IsInOrder, met, after, was_same};
 
-use crate::delta::{Closed, Opened};
-use crate::order::compare;
+use crate::changes::{Closed, Opened};
+use crate::order::compare_findings;
 use crate::standing::Standing;
 use feed_values::Items;
 use rule_table::{Finding, are_same_facts};
@@ -29,7 +29,7 @@ fn meet<'a>(list: &'a [Standing], from: usize, finding: &Finding) -> Met<'a>
     ensures within { result.next ≤ length list.now }
 {
     for i in from..list.len() {
-        match compare(list[i].finding(), finding) {
+        match compare_findings(list[i].finding(), finding) {
             Ordering::Less => {}
             Ordering::Equal => {
                 return Met {
@@ -73,16 +73,20 @@ fn is_same(met: Met<'_>, finding: &Finding) -> bool
     }
 }
 
-/// Findings, each with the number that its rule has at its place in an old list, and where it has none with `applied`.
-pub(crate) fn renew(
+/// Findings, each with the number that its rule has at its place in an old list, whatever its facts were; where it has none there, with
+/// `applied`.
+///
+/// It goes once along both lists. The one error is want of memory.
+pub fn renew(
     alloc: Global,
     old: &[Standing],
     found: Items<Finding>,
     applied: u64,
 ) -> Result<Items<Standing>, AllocError>
-    requires old { Rises found_cmp (findings_of old.now) }
+    requires old { IsInOrder old.now }
     requires found { Rises found_cmp found }
-    ensures { IfOk result (λ list. list ≡ renewed old.now applied found) }
+    ensures list { IfOk result (λ list. list ≡ renewed old.now applied found) }
+    ensures ordered { IfOk result IsInOrder }
 {
     let mut list = Vec::new(alloc);
     let mut at = 0;
@@ -95,15 +99,17 @@ pub(crate) fn renew(
     Ok(Items::from_vec(list))
 }
 
-/// Appends the findings of now that weren't among those before with the same facts.
-pub(crate) fn put_opened(
+/// Appends the findings of now that weren't among those before with the same facts, in their order.
+///
+/// It goes once along both lists. The one error is want of memory; `out` is of no further use then.
+pub fn put_opened(
     alloc: Global,
     before: &[Standing],
     now: &[Standing],
     out: &mut Items<Opened>,
 ) -> Result<(), AllocError>
-    requires before { Rises found_cmp (findings_of before.now) }
-    requires now { Rises found_cmp (findings_of now.now) }
+    requires before { IsInOrder before.now }
+    requires now { IsInOrder now.now }
     ensures { OnOk result (all_opened out.new ≡ all_opened out.old ++ opened (findings_of before.now) now.now) }
 {
     let mut at = 0;
@@ -117,15 +123,17 @@ pub(crate) fn put_opened(
     Ok(())
 }
 
-/// Appends the rules at places that stood before and don't now.
-pub(crate) fn put_closed(
+/// Appends the rules at places that stood before and don't now, in their order.
+///
+/// It goes once along both lists. The one error is want of memory; `out` is of no further use then.
+pub fn put_closed(
     alloc: Global,
     before: &[Standing],
     now: &[Standing],
     out: &mut Items<Closed>,
 ) -> Result<(), AllocError>
-    requires before { Rises found_cmp (findings_of before.now) }
-    requires now { Rises found_cmp (findings_of now.now) }
+    requires before { IsInOrder before.now }
+    requires now { IsInOrder now.now }
     ensures { OnOk result (all_closed out.new ≡ all_closed out.old ++ closed (findings_of before.now) (findings_of now.now)) }
 {
     let mut at = 0;

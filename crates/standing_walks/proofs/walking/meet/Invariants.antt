@@ -1,6 +1,6 @@
 use Rattle.std.proofs.Common.{◌≡◌, drop, length}
-use Rattle.follow_engine.specs.Walked.{met, after}
-use Rattle.follow_engine.proofs.walking.meet.Given as goal
+use Rattle.standing_walks.specs.Walked.{met, after}
+use Rattle.standing_walks.proofs.walking.meet.Given as goal
 
 abbrev pub invariant-loop-i : goal.invariant-loop-i
 invariant-loop-i l =

@@ -9,9 +9,10 @@ use Rattle.rule_table.specs.Found.{Found}
 use Rattle.rule_history.specs.Standing.{Standing, Spot, opened, closed}
 use Rattle.engine_laws.specs.Order.{found_cmp, Rises}
 use Rattle.engine_laws.specs.Standings.{findings_of, renewed}
+use Rattle.engine_laws.proofs.Since.{findings-renewed}
 use Rattle.engine_laws.proofs.Walk.{walk_renews, walk_opens, walk_closes}
-use Rattle.follow_engine.specs.Deltas.{spot_of}
-use Rattle.follow_engine.specs.Walked.{met, after, was_same}
+use Rattle.standing_walks.specs.Changes.{spot_of}
+use Rattle.standing_walks.specs.Walked.{met, after, was_same}
 
 -- what is left of a list in order is in order
 pub after_rises : (f : Found) (xs : List Standing) → Rises found_cmp (findings_of xs) → Rises found_cmp (findings_of (after f xs))
@@ -58,6 +59,10 @@ close_one f before (y ∷ xs) up old =
       | Equal ↦ λ e. walk_closes.met f before y.finding (findings_of xs) up e
       | Greater ↦ λ g. walk_closes.gone f before y.finding (findings_of xs) old g
     ] refl
+
+-- a list renewed is in order where what was found is
+pub renewed_rises : (old : List Standing) (n : ℕ) (fs : List Found) → Rises found_cmp fs → Rises found_cmp (findings_of (renewed old n fs))
+renewed_rises old n fs h = subst (λ (xs : List Found). Rises found_cmp xs) (sym (findings-renewed old n fs)) h
 
 -- ---- steps of the loops
 module _ (n : ℕ) (old : List Standing) (at next : ℕ) (f : Found) (fs rest : List Found) (list list' all : List Standing) (m : Option Standing) (since : ℕ) where
