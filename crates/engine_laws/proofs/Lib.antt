@@ -11,6 +11,7 @@ pub mod Next
 pub mod Seats
 pub mod Rows
 pub mod Walk
+pub mod Unchanged
 pub mod Sizes
 pub mod Pairing
 pub mod Places

@@ -32,7 +32,6 @@ use Rattle.engine_laws.specs.Order.{found_cmp, Rises}
 use Rattle.engine_laws.specs.HeldFeeds.{KeyedLists, head_found, held_answer, entity_found, entities_found, list_under, renewed_lists}
 use Rattle.engine_laws.specs.Standings.{findings_of, renewed}
 use Rattle.engine_laws.proofs.Ascending.{feed_ascends}
-use Rattle.engine_laws.proofs.Since.{findings-renewed}
 use Rattle.engine_laws.proofs.Sorted.{Rising, entities_rise, ordered-rising}
 use Rattle.engine_laws.proofs.AtHand.{heads_first, is_held, heads_limits}
 
@@ -98,10 +97,6 @@ head_is t u s b feed header previous changed moment fs f h p d m is =
     ∙ ap (λ x. whole.header_found t u (record { header = header_of s.bytes; previous = option_map (λ p. header_of p.bytes) b; changed = entities_differ s.bytes b; moment = x }) feed) m
     ∙ ap (whole.header_found t u (heads_of s b)) f
     ∙ header_is t u s b
-
--- a list renewed is in order where its findings are
-pub order_renewed : (old : List Standing) (n : ℕ) (fs : List Found) → Rises found_cmp fs → Rises found_cmp (findings_of (renewed old n fs))
-order_renewed old n fs h = subst (λ (xs : List Found). Rises found_cmp xs) (sym (findings-renewed old n fs)) h
 
 -- ---- at all seats
 seats-keyed : (t : Option Tables) (u : List PairRow) (s : Snapshot) (es : Seats) → found_seats t u s es ≡ map {B = EntityKey × List Found} (λ e. (e.0, entity_found t u s e)) (keyed_seats s.bytes es)

@@ -1,4 +1,3 @@
-pub mod Walked
 pub mod SeatedNext
 pub mod RowsAt
 pub mod RowsBelow
@@ -6,7 +5,6 @@ pub mod Concerned
 pub mod Judged
 pub mod Under
 pub mod Sums
-pub mod Unchanged
 pub mod Nexts
 pub mod RowsOfAll
 pub mod Applied

@@ -9,6 +9,7 @@ use Rattle.feed_values.specs.Snapshot.{entity_payloads}
 use Rattle.rule_table.specs.declared.key.EntityKey.{EntityKey}
 use Rattle.rule_table.specs.Groups.{Each}
 use Rattle.rule_table.specs.Order.{key_cmp}
+use Rattle.rule_history.proofs.Keyed.{insert-mapped}
 use Rattle.rule_history.specs.History.{Keyed, id_of, count_id, keyed_after, ordered_after}
 use Rattle.follow_engine.specs.declared.seat.Seat.{Seat}
 use Rattle.follow_engine.specs.Seated.{seat_payload, Seats, keyed_seats}
@@ -19,26 +20,6 @@ count_last (x ∷ ps) p id = ap (λ n. cond (bytes_eq (id_of x) id) 1 0 + n) (co
   where
     moved : (a b c : ℕ) → a + (b + c) ≡ b + (a + c)
     moved a b c = omega arith
-
-insert_seat : (bytes : List ℕ) (es : Seats) (k : EntityKey) (x : Seat) → keyed_seats bytes (insert_entry key_cmp es k x) ≡ insert_entry key_cmp (keyed_seats bytes es) k (seat_payload bytes x)
-insert_seat bytes [] k x = refl
-insert_seat bytes (e ∷ es) k x =
-    elim (key_cmp k e.0) as (λ o. keyed_seats bytes (match_ordering o ((k, x) ∷ e ∷ es) ((e.0, x) ∷ es) (e ∷ insert_entry key_cmp es k x))
-    ≡ match_ordering o ((k, seat_payload bytes x) ∷ keyed_seats bytes (e ∷ es)) ((e.0, seat_payload bytes x) ∷ keyed_seats bytes es) ((let s : Keyed = (e.0, seat_payload bytes e.1) in s) ∷ insert_entry key_cmp (keyed_seats bytes es) k (seat_payload bytes x))) [
-      | order.Less ↦ refl
-      | order.Equal ↦ refl
-      | order.Greater ↦ ap (λ xs. (let s : Keyed = (e.0, seat_payload bytes e.1) in s) ∷ xs) (insert_seat bytes es k x)
-    ]
-
--- what holds of all values holds of them where one more comes in
-pub each_put : {A : Type 0} (P : A → Type 0) (es : List (EntityKey × A)) (k : EntityKey) (v : A) → P v → Each (λ e. P e.1) es → Each (λ e. P e.1) (insert_entry key_cmp es k v)
-each_put P [] k v p h = (p, tt)
-each_put P (e ∷ es) k v p h =
-    elim (key_cmp k e.0) as (λ o. Each (λ e. P e.1) (match_ordering o ((k, v) ∷ e ∷ es) ((e.0, v) ∷ es) (e ∷ insert_entry key_cmp es k v))) [
-      | order.Less ↦ (p, h)
-      | order.Equal ↦ (p, h.1)
-      | order.Greater ↦ (h.0, each_put P es k v p h.1)
-    ]
 
 pub read_payload : (ps : List (List ℕ)) (i : ℕ) (p : List ℕ) → Some p ≡ slice_get ps i → get_or ps i [] ≡ p
 read_payload [] zero p h = cc
@@ -72,7 +53,7 @@ module _ (bytes : List ℕ) (i : ℕ) (p : List ℕ) (l : i < length (entity_pay
   seated_next f n id x old new all at named count put before =
       ap (λ xs. ordered_after (keyed_seats bytes new) (keyed_after f xs (drop (i + 1) ps))) done_more
       ∙ ap (λ xs. ordered_after (keyed_seats bytes xs) (keyed_after f (take i ps ++ p ∷ []) (drop (i + 1) ps))) put
-      ∙ ap (λ xs. ordered_after xs (keyed_after f (take i ps ++ p ∷ []) (drop (i + 1) ps))) (insert_seat bytes old (record { feed = f; id = id; occurrence = n }) x)
+      ∙ ap (λ xs. ordered_after xs (keyed_after f (take i ps ++ p ∷ []) (drop (i + 1) ps))) (insert-mapped (seat_payload bytes) old (record { feed = f; id = id; occurrence = n }) x)
       ∙ ap (λ v. ordered_after (insert_entry key_cmp (keyed_seats bytes old) (record { feed = f; id = id; occurrence = n }) v) (keyed_after f (take i ps ++ p ∷ []) (drop (i + 1) ps))) (ap (λ j. get_or ps j []) at ∙ here)
       ∙ ap (λ d. ordered_after (insert_entry key_cmp (keyed_seats bytes old) (record { feed = f; id = d; occurrence = n }) p) (keyed_after f (take i ps ++ p ∷ []) (drop (i + 1) ps))) named
       ∙ ap (λ m. ordered_after (insert_entry key_cmp (keyed_seats bytes old) (record { feed = f; id = id_of p; occurrence = m }) p) (keyed_after f (take i ps ++ p ∷ []) (drop (i + 1) ps))) count

@@ -1,5 +1,4 @@
 pub mod Deltas
-pub mod Walked
 pub mod Left
 pub mod Changes
 pub mod GivesIds

@@ -5,14 +5,11 @@ use Rattle.rule_table.specs.Groups.{Each}
 use Rattle.rule_table.specs.Pairs.{PairRow}
 use Rattle.rule_history.specs.History.{Snapshot}
 use Rattle.rule_history.specs.Standing.{Standing}
-use Rattle.engine_laws.specs.Order.{found_cmp, Rises}
-use Rattle.engine_laws.specs.Standings.{findings_of, renewed}
+use Rattle.engine_laws.specs.Standings.{renewed}
+pub use Rattle.standing_walks.specs.Walked.{IsInOrder}
 use Rattle.engine_laws.specs.HeldFeeds.{KeyedLists, HeldFeed, head_found, entities_found, renewed_lists, feed_at, AreOwn}
 
 -- ---- lists in order
-abbrev pub IsInOrder : List Standing → Type 0
-IsInOrder xs = Rises found_cmp (findings_of xs)
-
 abbrev pub ListsInOrder : KeyedLists → Type 0
 ListsInOrder lists = Each (λ c. IsInOrder c.1) lists
 

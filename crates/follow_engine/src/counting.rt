@@ -11,10 +11,10 @@ ghost use Rattle.follow_engine.specs.Counted.{is_fresh, is_bounded, concerns};
 use crate::arrival::Arrival;
 use crate::renewing::held_under;
 use crate::seat::Seat;
-use crate::standing::Standing;
 use crate::taken::Taken;
 use feed_values::Items;
 use rule_table::{EntityKey, RuleId};
+use standing_walks::Standing;
 use std::alloc::AllocError;
 use std::collections::BTreeMap;
 

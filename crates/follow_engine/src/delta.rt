@@ -1,7 +1,7 @@
 //! What a snapshot changes.
 
 use feed_values::Items;
-use rule_table::{Finding, Place, RuleId};
+use standing_walks::{Closed, Opened};
 
 /// What one more snapshot changed.
 #[derive(Drop)]
@@ -22,18 +22,4 @@ pub struct Delta {
     /// How many of its entities are new or have other bytes, or, where the header's timestamp or the moment is another than
     /// before, have a finding of E012 or E050 now or had one.
     pub bounded: u64,
-}
-
-/// A finding that opened, and the number of the snapshot since which its rule stands at its place, whatever the facts were.
-#[derive(Drop)]
-pub struct Opened {
-    pub finding: Finding,
-    pub since: u64,
-}
-
-/// A rule that stands no more at a place.
-#[derive(Drop)]
-pub struct Closed {
-    pub rule: RuleId,
-    pub place: Place,
 }

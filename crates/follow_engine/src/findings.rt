@@ -7,9 +7,9 @@ ghost use Rattle.follow_engine.specs.Left.{standing_of};
 ghost use Rattle.follow_engine.specs.Rooms.{feeds_of};
 
 use crate::room::Room;
-use crate::standing::Standing;
 use feed_values::Items;
 use rule_table::{EntityKey, Finding};
+use standing_walks::Standing;
 use std::collections::btree_map::Values;
 use std::marker::Model;
 

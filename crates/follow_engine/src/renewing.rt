@@ -11,15 +11,13 @@ ghost use Rattle.follow_engine.specs.Deltas.{all_opened};
 ghost use Rattle.follow_engine.specs.Rooms.{IsInOrder, ListsInOrder};
 ghost use Rattle.follow_engine.specs.Seated.{IsSeat, seat_payload};
 
-use crate::delta::Opened;
 use crate::seat::Seat;
-use crate::standing::Standing;
 use crate::taken::Taken;
-use crate::walking::{put_opened, renew};
 use feed_values::Items;
 use judging::AllRules;
 use rt_outside::Steps;
 use rule_table::{EntityKey, Finding, PairView};
+use standing_walks::{Opened, Standing, put_opened, renew};
 use std::alloc::{AllocError, Global};
 use std::collections::BTreeMap;
 use std::sync::ledger::Ledger;

@@ -1,10 +1,10 @@
 //! What is held of a feed.
 ghost use Rattle.std.specs.Prelude.{◌≡◌};
 
-use crate::standing::Standing;
 use crate::taken::Taken;
 use feed_values::Items;
 use rule_table::EntityKey;
+use standing_walks::Standing;
 use std::collections::BTreeMap;
 use std::marker::Model;
 

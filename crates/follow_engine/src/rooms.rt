@@ -11,16 +11,14 @@ ghost use Rattle.follow_engine.specs.Counted.{tested_in, paired_in, bounded_in, 
 
 use crate::arrival::Arrival;
 use crate::counting::{Counts, count_entities};
-use crate::delta::{Closed, Opened};
 use crate::renewing::{held_under, renew_entities, renew_header};
 use crate::room::Room;
-use crate::standing::Standing;
 use crate::taken::Taken;
-use crate::walking::{put_closed, put_opened};
 use feed_values::Items;
 use judging::AllRules;
 use rt_outside::Steps;
 use rule_table::{EntityKey, PairView};
+use standing_walks::{Closed, Opened, Standing, put_closed, put_opened};
 use std::alloc::{AllocError, Global};
 use std::collections::BTreeMap;
 use std::sync::ledger::Ledger;

@@ -1,4 +1,4 @@
--- A bound rule stands at a timestamp exactly where it is given and above the rule's bound.
+-- A bound rule stands at a timestamp exactly where it is given and above the rule's bound, and nowhere else.
 use Rattle.std.specs.Prelude.{◌≡◌, ◌⊎◌, ◌↔◌, ℕ, ◌+◌, ◌<◌, ◌^◌, ℤ, pos, negsuc, int_le, ◌<ℤ◌, ◌+ℤ◌, nat_le, ◌==◌, Bool, true, false, not, ◌&&◌, T, List, [], ◌∷◌, ◌++◌, Option, Some, None, cond, refl}
 use Rattle.std.proofs.Common.{inl, inr, sym, ap, ◌∙◌, subst, arith, leb}
 use borrow.Author.Tests.{ltb-true, lt-ltb, leb-false, lt-leb, le-leb, not-true, clash}
@@ -27,9 +27,9 @@ use Rattle.rule_table.specs.Rows.{cites_at, test_at}
 use Rattle.rule_table.specs.Found.{Found}
 use Rattle.rule_table.specs.Judged.{found_of, found_at, found_by, found_all}
 use Rattle.rule_table.specs.Groups.{Each, IsUnder, has_rule}
-use Rattle.rule_table.specs.GroupLaws.{Stands, at_place, row_own, all_own}
+use Rattle.rule_table.specs.GroupLaws.{Stands, at_place, row_own, all_own, each_append, each_weaken}
 use Rattle.rule_table.specs.BothLaws.{stands_left, stands_right, stands_either, rule_of}
-use Rattle.rule_table.specs.Bounds.{bound_at, IsAbove, StandsAt, AreHeld, is_timestamp, stamp_at}
+use Rattle.rule_table.specs.Bounds.{bound_at, IsAbove, StandsAt, AreHeld, IsStamp, AreAtStamps, is_timestamp, stamp_at}
 use Rattle.history_rules.specs.Rules.{bound_rules, bound_of}
 
 -- ---- numbers
@@ -178,3 +178,16 @@ module _ (t : Option ℤ) (m : ℕ) (k : EntityKey) (e : Value entity) where
   rules_exact E012 _ h is has = cc
   rules_exact E050 _ h is has = cc
   rules_exact _ slot h is has = cc
+
+  -- ---- all findings stand at timestamps
+  one_at : (rule : RuleId) (s : Slot) → is_timestamp s ≡ true → AreAtStamps k (found_at rule answers (stamp_at k s))
+  one_at rule s is =
+      each_weaken (Stands rule (λ q. q ≡ stamp_at k s)) (λ f. IsStamp k f.place) (λ f h. record { slot = s; timestamp = is; here = h.at }) (found_at rule answers (stamp_at k s)) (at_place rule answers (stamp_at k s))
+
+  both_at : (rule : RuleId) → AreAtStamps k (both rule)
+  both_at rule =
+      each_append (λ f. IsStamp k f.place) (found_at rule answers (stamp_at k S29)) (found_at rule answers (stamp_at k S59) ++ []) (one_at rule S29 refl)
+      (each_append (λ f. IsStamp k f.place) (found_at rule answers (stamp_at k S59)) [] (one_at rule S59 refl) tt)
+
+  pub rules_at : AreAtStamps k (found_all bound_rules answers k e)
+  rules_at = each_append (λ f. IsStamp k f.place) (both E012) (both E050 ++ []) (both_at E012) (each_append (λ f. IsStamp k f.place) (both E050) [] (both_at E050) tt)

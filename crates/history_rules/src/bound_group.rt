@@ -8,7 +8,7 @@ ghost use Rattle.rule_table.specs.Answers.{bound_answer, limit_answer};
 ghost use Rattle.rule_table.specs.Judged.{found_all};
 ghost use Rattle.rule_table.specs.GroupLaws.{all_own, all_once};
 ghost use Rattle.history_rules.specs.Rules.{bound_rules, bound_of};
-ghost use Rattle.history_rules.specs.Exact.{rules_exact};
+ghost use Rattle.history_rules.specs.Exact.{rules_exact, rules_at};
 
 use feed_values::{CellRef, Entity, FeedHeader, Slot, field_at, header_at};
 use rt_outside::Steps;
@@ -76,6 +76,8 @@ impl BoundRule for BoundGroup {
     ghost once = { λ _ t m k e. all_once bound_rules (bound_answer t m k e) k e refl };
 
     ghost exact = { λ _ t m k e rule slot held is has. rules_exact t m k e rule slot held is has };
+
+    ghost at = { λ _ t m k e. rules_at t m k e };
 
     fn judge<L: Ledger>(
         &self,

@@ -1,5 +1,5 @@
 -- Entries under keys, put in order one by one; so are the entities of a snapshot.
-use Rattle.std.specs.Prelude.{◌≡◌, ℕ, List, [], ◌∷◌, ◌++◌, refl}
+use Rattle.std.specs.Prelude.{◌≡◌, ℕ, List, [], ◌∷◌, ◌++◌, map, refl}
 use Rattle.std.proofs.Common.{◌∙◌, ap}
 use Rattle.std.specs.Ordering.{ordering_reverse, match_ordering}
 use Rattle.std.specs.declared.cmp.Ordering.TheVariants as order
@@ -21,6 +21,27 @@ each_insert P (e ∷ es) k v p h =
       | order.Less ↦ (p, h)
       | order.Equal ↦ (h.0, h.1)
       | order.Greater ↦ (h.0, each_insert P es k v p h.1)
+    ]
+
+-- and so of all values
+pub each_put : {A : Type 0} (P : A → Type 0) (es : List (EntityKey × A)) (k : EntityKey) (v : A) → P v → Each (λ e. P e.1) es → Each (λ e. P e.1) (insert_entry key_cmp es k v)
+each_put P [] k v p h = (p, tt)
+each_put P (e ∷ es) k v p h =
+    elim (key_cmp k e.0) as (λ o. Each (λ e. P e.1) (match_ordering o ((k, v) ∷ e ∷ es) ((e.0, v) ∷ es) (e ∷ insert_entry key_cmp es k v))) [
+      | order.Less ↦ (p, h)
+      | order.Equal ↦ (p, h.1)
+      | order.Greater ↦ (h.0, each_put P es k v p h.1)
+    ]
+
+-- values mapped go in as they are mapped
+pub insert-mapped : {A B : Type 0} (f : A → B) (es : List (EntityKey × A)) (k : EntityKey) (v : A) → map {B = EntityKey × B} (λ e. (e.0, f e.1)) (insert_entry key_cmp es k v) ≡ insert_entry key_cmp (map (λ e. (e.0, f e.1)) es) k (f v)
+insert-mapped f [] k v = refl
+insert-mapped {A} {B} f (e ∷ es) k v =
+    elim (key_cmp k e.0) as (λ o. map {B = EntityKey × B} (λ d. (d.0, f d.1)) (match_ordering o ((k, v) ∷ e ∷ es) ((e.0, v) ∷ es) (e ∷ insert_entry key_cmp es k v))
+    ≡ match_ordering o ((k, f v) ∷ map (λ d. (d.0, f d.1)) (e ∷ es)) ((e.0, f v) ∷ map (λ d. (d.0, f d.1)) es) ((let d : EntityKey × B = (e.0, f e.1) in d) ∷ insert_entry key_cmp (map (λ d. (d.0, f d.1)) es) k (f v))) [
+      | order.Less ↦ refl
+      | order.Equal ↦ refl
+      | order.Greater ↦ ap (λ xs. (let d : EntityKey × B = (e.0, f e.1) in d) ∷ xs) (insert-mapped f es k v)
     ]
 
 pub rising_insert : {A : Type 0} (es : List (EntityKey × A)) (k : EntityKey) (v : A) → Rising es → Rising (insert_entry key_cmp es k v)

@@ -16,6 +16,7 @@ use Rattle.rule_table.specs.declared.place.Place.TheVariants as place
 use Rattle.rule_table.specs.Asked.{in_range}
 use Rattle.rule_table.specs.Order.{slot_number}
 use Rattle.rule_table.specs.Found.{Found}
+use Rattle.rule_table.specs.Groups.{Each}
 
 -- the bound that a rule has, where there is one: the header's timestamp, or a minute after the moment
 abbrev pub bound_at : Bound → Option ℤ → ℕ → Option ℤ
@@ -37,6 +38,15 @@ is_timestamp s = slot_number s == slot_number S29 || slot_number s == slot_numbe
 
 abbrev pub stamp_at : EntityKey → Slot → Place
 stamp_at k s = place.Entity k (record { slot = s; index = 0 })
+
+-- a place is at a timestamp of the entity with a key
+pub record IsStamp (k : EntityKey) (at : Place) : Type 0 where
+  pub slot : Slot
+  pub timestamp : is_timestamp slot ≡ true
+  pub here : at ≡ stamp_at k slot
+
+abbrev pub AreAtStamps : EntityKey → List Found → Type 0
+AreAtStamps k fs = Each (λ f. IsStamp k f.place) fs
 
 -- timestamps and a moment as they are held: from 0 to 2^64 - 1
 pub record AreHeld (timestamp : Option ℤ) (moment : ℕ) (e : Value entity) (s : Slot) : Type 0 where

@@ -7,6 +7,7 @@ pub mod Passed
 pub mod Cited
 pub mod Broken
 pub mod Found
+pub mod ByRule
 pub mod Settled
 pub mod Judged
 pub mod ClearSlots

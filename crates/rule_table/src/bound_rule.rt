@@ -10,9 +10,9 @@ ghost use Rattle.rule_table.specs.declared.key.EntityKey.{EntityKey};
 ghost use Rattle.rule_table.specs.declared.bound_rule.Bound.{Bound};
 ghost use Rattle.rule_table.specs.Found.{Found};
 ghost use Rattle.rule_table.specs.Groups.{AreOf, IsUnder, Once, has_rule};
-ghost use Rattle.rule_table.specs.GroupLaws.{both_own, both_once};
+ghost use Rattle.rule_table.specs.GroupLaws.{both_own, both_once, each_append};
 ghost use Rattle.rule_table.specs.BothLaws.{both_exact};
-ghost use Rattle.rule_table.specs.Bounds.{bound_at, IsAbove, StandsAt, AreHeld, is_timestamp, stamp_at};
+ghost use Rattle.rule_table.specs.Bounds.{bound_at, IsAbove, StandsAt, AreHeld, IsStamp, AreAtStamps, is_timestamp, stamp_at};
 
 use crate::both::Both;
 use crate::finding_list::FindingList;
@@ -64,6 +64,9 @@ pub trait BoundRule: Rules {
     /// A rule stands at a timestamp exactly where it is given and above the rule's bound.
     ghost exact: { (s : Self) (t : Option ℤ) (m : ℕ) (k : EntityKey) (e : Value messages.entity) (rule : RuleId) (slot : Slot) → AreHeld t m e slot → is_timestamp slot ≡ true
         → has_rule (Self.rules s) rule ≡ true → StandsAt (findings s t m k e) rule (stamp_at k slot) ↔ IsAbove (entity_cell e slot 0) (bound_at (bound s rule) t m) };
+
+    /// And nothing stands elsewhere.
+    ghost at: { (s : Self) (t : Option ℤ) (m : ℕ) (k : EntityKey) (e : Value messages.entity) → AreAtStamps k (findings s t m k e) };
 }
 
 impl<A: BoundRule, B: BoundRule> BoundRule for Both<A, B> {
@@ -77,6 +80,8 @@ impl<A: BoundRule, B: BoundRule> BoundRule for Both<A, B> {
 
     ghost exact = { λ s t m k e rule slot held is has. both_exact (A.rules s.first) (B.rules s.second) s.apart (IsUnder k) (A.findings s.first t m k e) (B.findings s.second t m k e) (A.own s.first t m k e) (B.own s.second t m k e)
         rule (stamp_at k slot) (entity_cell e slot 0) (A.bound s.first rule) (B.bound s.second rule) t m (A.exact s.first t m k e rule slot held is) (B.exact s.second t m k e rule slot held is) has };
+
+    ghost at = { λ s t m k e. each_append (λ f. IsStamp k f.place) (A.findings s.first t m k e) (B.findings s.second t m k e) (A.at s.first t m k e) (B.at s.second t m k e) };
 
     fn judge<L: Ledger>(
         &self,

@@ -3,8 +3,8 @@ use Rattle.std.specs.Prelude.{◌≡◌, ◌++◌, ◌||◌, ℕ, Bool, List, []
 use Rattle.std.specs.List.{flat_map, list_any}
 use Rattle.std.proofs.Common.{ap, ◌∙◌, append_assoc}
 use Rattle.follow_engine.specs.Deltas.{all_opened, all_closed}
-use Rattle.follow_engine.specs.declared.delta.Closed.{Closed}
-use Rattle.follow_engine.specs.declared.delta.Opened.{Opened}
+use Rattle.follow_engine.specs.declared.Closed.{Closed}
+use Rattle.follow_engine.specs.declared.Opened.{Opened}
 use Rattle.rt_report.specs.declared.finding.LineKind.TheVariants as line
 use Rattle.rt_report.specs.declared.lines.Lines.{Lines}
 use Rattle.rt_report.specs.FindingLines.{AddsText, standing_text, closed_text, is_error, any_error}

@@ -10,6 +10,7 @@ use Rattle.feed_values.specs.Messages.{entity}
 use Rattle.feed_values.specs.Snapshot.{entities_of, entity_of, entity_payloads}
 use Rattle.feed_values.proofs.SnapshotFields.{snapshot_is_its_fields}
 use Rattle.rule_table.specs.declared.key.EntityKey.{EntityKey}
+use Rattle.rule_history.proofs.Keyed.{insert-mapped}
 use Rattle.rule_history.specs.History.{ordered_after}
 use Rattle.rule_table.specs.Order.{key_cmp}
 use Rattle.judging.specs.Seats.{Seat, count_id, id_of, seated_after, seats}
@@ -21,25 +22,6 @@ count_last (x ∷ es) e id = ap (λ n. cond (bytes_eq (id_of x) id) 1 0 + n) (co
   where
     moved : (a b c : ℕ) → a + (b + c) ≡ b + (a + c)
     moved a b c = omega arith
-
-insert_place : (bytes : List ℕ) (es : Places) (k : EntityKey) (place : ℕ) → placed bytes (insert_entry key_cmp es k place) ≡ insert_entry key_cmp (placed bytes es) k (entity_at bytes place)
-insert_place bytes [] k place = refl
-insert_place bytes (e ∷ es) k place =
-    elim (key_cmp k e.0) as (λ o. placed bytes (match_ordering o ((k, place) ∷ e ∷ es) ((e.0, place) ∷ es) (e ∷ insert_entry key_cmp es k place))
-    ≡ match_ordering o ((k, entity_at bytes place) ∷ placed bytes (e ∷ es)) ((e.0, entity_at bytes place) ∷ placed bytes es) ((let s : Seat = (e.0, entity_at bytes e.1) in s) ∷ insert_entry key_cmp (placed bytes es) k (entity_at bytes place))) [
-      | order.Less ↦ refl
-      | order.Equal ↦ refl
-      | order.Greater ↦ ap (λ xs. (let s : Seat = (e.0, entity_at bytes e.1) in s) ∷ xs) (insert_place bytes es k place)
-    ]
-
-pub within_put : (bytes : List ℕ) (es : Places) (k : EntityKey) (place : ℕ) → place < length (entity_payloads bytes) → AreWithin bytes es → AreWithin bytes (insert_entry key_cmp es k place)
-within_put bytes [] k place l h = (l, tt)
-within_put bytes (e ∷ es) k place l h =
-    elim (key_cmp k e.0) as (λ o. AreWithin bytes (match_ordering o ((k, place) ∷ e ∷ es) ((e.0, place) ∷ es) (e ∷ insert_entry key_cmp es k place))) [
-      | order.Less ↦ (l, h)
-      | order.Equal ↦ (l, h.1)
-      | order.Greater ↦ (h.0, within_put bytes es k place l h.1)
-    ]
 
 pub read_payload : (ps : List (List ℕ)) (i : ℕ) (p : List ℕ) → Some p ≡ slice_get ps i → get_or ps i [] ≡ p
 read_payload [] zero p h = cc
@@ -98,7 +80,7 @@ module _ (bytes : List ℕ) (i : ℕ) (p : List ℕ) (l : i < length (entity_pay
   seated_next f n id old new all named count put before =
       ap (λ xs. ordered_after (placed bytes new) (seated_after f xs left)) done_more
       ∙ ap (λ xs. ordered_after (placed bytes xs) (seated_after f (done ++ entity_of p ∷ []) left)) put
-      ∙ ap (λ xs. ordered_after xs (seated_after f (done ++ entity_of p ∷ []) left)) (insert_place bytes old (record { feed = f; id = id; occurrence = n }) i)
+      ∙ ap (λ xs. ordered_after xs (seated_after f (done ++ entity_of p ∷ []) left)) (insert-mapped (entity_at bytes) old (record { feed = f; id = id; occurrence = n }) i)
       ∙ ap (λ v. ordered_after (insert_entry key_cmp (placed bytes old) (record { feed = f; id = id; occurrence = n }) (entity_of v)) (seated_after f (done ++ entity_of p ∷ []) left)) here
       ∙ ap (λ d. ordered_after (insert_entry key_cmp (placed bytes old) (record { feed = f; id = d; occurrence = n }) (entity_of p)) (seated_after f (done ++ entity_of p ∷ []) left)) named
       ∙ ap (λ m. ordered_after (insert_entry key_cmp (placed bytes old) (record { feed = f; id = id_of (entity_of p); occurrence = m }) (entity_of p)) (seated_after f (done ++ entity_of p ∷ []) left)) count

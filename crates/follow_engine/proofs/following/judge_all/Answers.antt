@@ -2,8 +2,8 @@ use Rattle.std.proofs.Common.{◌≡◌, ℕ, ◌+◌, ap, ◌∙◌, subst, ref
 use Rattle.timetable.specs.Timetables.{Tables}
 use Rattle.engine_laws.specs.HeldFeeds.{feed_at, entities_found, rows_held}
 use Rattle.rule_history.specs.Standing.{Standing, Spot}
-use Rattle.follow_engine.specs.declared.delta.Opened.{Opened}
-use Rattle.follow_engine.specs.declared.delta.Closed.{Closed}
+use Rattle.standing_walks.specs.declared.changes.Opened.{Opened}
+use Rattle.standing_walks.specs.declared.changes.Closed.{Closed}
 use Rattle.follow_engine.specs.Deltas.{all_opened, all_closed}
 use Rattle.follow_engine.specs.Rooms.{feeds_of}
 use Rattle.follow_engine.proofs.following.judge_all.Goals as goal

@@ -15,7 +15,7 @@ use Rattle.follow_engine.specs.Deltas.{all_opened}
 use Rattle.follow_engine.specs.Rooms.{IsInOrder, ListsInOrder}
 use Rattle.follow_engine.specs.Seated.{IsSeat, Seats, seat_payload}
 use Rattle.follow_engine.specs.Found.{found_at, found_seats}
-use Rattle.follow_engine.proofs.SeatedNext.{each_put}
+use Rattle.rule_history.proofs.Keyed.{each_put}
 use Rattle.follow_engine.proofs.Judged.{seats_found, seats_rise, lists_ordered, lists_next, opens_next}
 use Rattle.follow_engine.proofs.renewing.renew_entities.Goals as goal
 

@@ -1,7 +1,7 @@
 use Rattle.std.proofs.Common.{ap, ◌∙◌, sym, ◌++◌, append-nil}
 use Rattle.engine_laws.specs.Standings.{findings_of}
 use Rattle.follow_engine.specs.Deltas.{all_opened, all_closed}
-use Rattle.follow_engine.proofs.Unchanged.{opened-same, closed-same}
+use Rattle.engine_laws.proofs.Unchanged.{opened-same, closed-same}
 use Rattle.follow_engine.proofs.rooms.next_header.Goals as goal
 
 pub returns-then-feed-arrival-clause-opens : goal.returns-then-feed-arrival-clause-opens

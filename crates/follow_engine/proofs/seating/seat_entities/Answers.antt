@@ -3,12 +3,13 @@ use Rattle.std.specs.BTreeMap.{insert_entry}
 use Rattle.feed_values.specs.Snapshot.{entity_payloads, entity_of}
 use Rattle.feed_values.specs.Views.{entity_value}
 use Rattle.rule_table.specs.Groups.{Each}
+use Rattle.rule_history.proofs.Keyed.{each_put}
 use Rattle.rule_history.specs.History.{id_of, count_id}
 use Rattle.rule_table.specs.Order.{key_cmp}
 use Rattle.judging.specs.Seats.{count_in}
 use Rattle.follow_engine.specs.declared.seat.Seat.{Seat}
 use Rattle.follow_engine.specs.Seated.{IsSeat}
-use Rattle.follow_engine.proofs.SeatedNext.{counted_next, seated_next, each_put, read_payload}
+use Rattle.follow_engine.proofs.SeatedNext.{counted_next, seated_next, read_payload}
 use Rattle.follow_engine.proofs.seating.seat_entities.Goals as goal
 
 pub loop-place-preserved : goal.loop-place-preserved

@@ -1,12 +1,13 @@
-use Rattle.std.proofs.Common.{◌≡◌, ◌+◌, ℕ, List, [], Some, true, false, refl, ap, ◌∙◌, sym, subst, cond, map, take, get_or, arith}
+use Rattle.std.proofs.Common.{◌≡◌, ◌+◌, ◌<◌, length, ℕ, List, [], Some, true, false, refl, ap, ◌∙◌, sym, subst, cond, map, take, get_or, arith}
 use Rattle.std.specs.Prelude.{bytes_eq, slice_get}
 use Rattle.std.specs.BTreeMap.{insert_entry}
 use Rattle.feed_values.specs.Snapshot.{entity_of, entity_payloads}
 use Rattle.rule_table.specs.Order.{key_cmp}
 use Rattle.rule_table.specs.Counts.{count_in}
 use Rattle.judging.specs.Seats.{count_id, id_of}
+use Rattle.rule_history.proofs.Keyed.{each_put}
 use Rattle.snapshot_keys.specs.Places.{AreWithin, key_of}
-use Rattle.snapshot_keys.proofs.OneMore.{all_placed, counted_next, other_key, payload_there, seated_next, within_put}
+use Rattle.snapshot_keys.proofs.OneMore.{all_placed, counted_next, other_key, payload_there, seated_next}
 use Rattle.snapshot_keys.proofs.Standing.{counted_first, counted_other, first_key, number_first, number_other, single_first, single_other, stands, stands_first, stands_found, stands_still, was_false, was_true}
 use Rattle.snapshot_keys.proofs.placing.places.Goals as goal
 use Rattle.snapshot_keys.proofs.placing.places.Goals.{then-not-branch+in_ok-id+in_ok-put_other, else-not-branch}
@@ -41,7 +42,7 @@ loop-place-preserved c =
             counted = λ id. counted_next bytes place p (omega arith) payload id ∙ counted_other d (stands f es) (count_in c.loop-place.others) count i.counted i.single (count_in c.if-not-branch.others) counts id
                 ∙ ap (λ b. cond b 1 0 + count_in c.if-not-branch.others id) (sym (still id));
             single = λ id h. single_other d (stands f es) (count_in c.loop-place.others) count i.counted i.single (count_in c.if-not-branch.others) counts again id (sym (still id) ∙ h);
-            within = subst (AreWithin bytes) (sym entries) (within_put bytes es _ place (omega arith) i.within);
+            within = subst (AreWithin bytes) (sym entries) (each_put (λ n. n < length (entity_payloads bytes)) es _ place (omega arith) i.within);
             small = i.small;
           }
       | else-not-branch w ↦
@@ -55,7 +56,7 @@ loop-place-preserved c =
             counted = λ id. counted_next bytes place p (omega arith) payload id ∙ counted_first d (stands f es) (count_in c.loop-place.others) count i.counted i.single (stands f new) first fresh id
                 ∙ ap (λ m. cond (stands f new id) 1 0 + count_in m id) (sym w.others-is);
             single = λ id h. ap (λ m. count_in m id) w.others-is ∙ single_first d (stands f es) (count_in c.loop-place.others) count i.counted i.single (stands f new) first id h;
-            within = subst (AreWithin bytes) (sym entries) (within_put bytes es _ place (omega arith) i.within);
+            within = subst (AreWithin bytes) (sym entries) (each_put (λ n. n < length (entity_payloads bytes)) es _ place (omega arith) i.within);
             small = i.small;
           }
     ]

@@ -1,0 +1,44 @@
+-- What one more snapshot leaves as it is at an entity.
+use Rattle.std.specs.Prelude.{◌≡◌, ℕ, ◌==◌, ◌&&◌, not, Bool, true, false, List, Option, Some, None, option_map, bytes_eq, refl}
+use Rattle.std.proofs.Common.{sym, ap, ◌∙◌, subst}
+use Rattle.std.proofs.lemmas.Slice.Eq.{bytes_eq-Decides}
+use borrow.Author.Tests.{eqb-true, eqb-false, ne_eqb}
+use Rattle.feed_values.specs.Snapshot.{entity_of}
+use Rattle.rule_history.specs.History.{Snapshot, Keyed, entities, entities_of_snapshot}
+use Rattle.rule_history.specs.Answered.{rows, payload_under}
+use Rattle.rule_history.specs.Changed.{with, is_payload, in_tested, in_paired}
+use Rattle.engine_laws.proofs.Longer.{now-other}
+use Rattle.engine_laws.proofs.Pairing.{pairing_stays}
+use Rattle.engine_laws.proofs.Spots.{or_false}
+use Rattle.part_laws.specs.Parts.{FindLocal, FindPaired, IsThere}
+use Rattle.part_laws.specs.Stays.{LocalStays, PairedStays, IsPairing}
+
+same_payload : (p : List ℕ) (o : Option (List ℕ)) → not (is_payload p o) ≡ false → o ≡ Some p
+same_payload p None h = cc
+same_payload p (Some q) h = ap Some (sym ((bytes_eq-Decides p q).0 (is_true (bytes_eq p q) h)))
+  where
+    is_true : (b : Bool) → not b ≡ false → b ≡ true
+    is_true true k = refl
+    is_true false k = cc
+
+pub other_way : (a b : ℕ) → (a == b) ≡ false → (b == a) ≡ false
+other_way a b h = ne_eqb b a (λ e. eqb-false a b h (sym e))
+
+-- an entity that isn't tested was there with the same byte string
+pub was_there : (g : List Snapshot) (s : Snapshot) (e : Keyed) → IsThere (with g s) e → in_tested g s e ≡ false → IsThere g e
+was_there g s e there out =
+    elim (e.0.feed == s.feed) as (λ b. (e.0.feed == s.feed) ≡ b → (b && not (is_payload e.1 (payload_under e.0 (entities g s.feed)))) ≡ false → IsThere g e) [
+      | true ↦ λ at h. subst (λ f. payload_under e.0 (entities g f) ≡ Some e.1) (sym (eqb-true e.0.feed s.feed at)) (same_payload e.1 (payload_under e.0 (entities g s.feed)) h)
+      | false ↦ λ at h. sym (ap (λ n. payload_under e.0 (entities_of_snapshot n)) (now-other g s e.0.feed (other_way e.0.feed s.feed at))) ∙ there
+    ] refl out
+
+pub local_stays : (find : FindLocal) → LocalStays find
+local_stays find t g s e there out = ap (option_map (λ p. find t e.0 (entity_of p))) (was_there g s e there out ∙ sym there)
+
+pub paired_stays : (find : FindPaired) → IsPairing find → PairedStays find
+paired_stays find is g s e l there out =
+    let parts = or_false (in_tested g s e) (in_paired g s e) out in
+    let old : IsThere g e = was_there g s e there parts.0 in
+    ap (option_map (λ p. find (rows g) e.0 (entity_of p))) old
+    ∙ ap Some (pairing_stays find is.agree is.none g s e l old there parts.1)
+    ∙ sym (ap (option_map (λ p. find (rows (with g s)) e.0 (entity_of p))) there)

@@ -1,0 +1,5 @@
+pub mod FourParts
+pub mod Touched
+pub mod Parts
+pub mod Stays
+pub mod Bounded
