@@ -1,13 +1,9 @@
 -- One entity more of a snapshot.
 use Rattle.std.specs.Prelude.{◌≡◌, ◌<◌, ◌+◌, ℕ, zero, suc, List, [], ◌∷◌, ◌++◌, length, get_or, slice_get, take, drop, Some, cond, bytes_eq, refl}
-use Rattle.std.specs.Ordering.{match_ordering}
-use Rattle.std.specs.declared.cmp.Ordering.TheVariants as order
 use Rattle.std.specs.BTreeMap.{insert_entry}
 use Rattle.std.proofs.Common.{sym, ap, ◌∙◌, arith}
 use Rattle.std.proofs.lemmas.List.{take_more, drop_more}
 use Rattle.feed_values.specs.Snapshot.{entity_payloads}
-use Rattle.rule_table.specs.declared.key.EntityKey.{EntityKey}
-use Rattle.rule_table.specs.Groups.{Each}
 use Rattle.rule_table.specs.Order.{key_cmp}
 use Rattle.rule_history.proofs.Keyed.{insert-mapped}
 use Rattle.rule_history.specs.History.{Keyed, id_of, count_id, keyed_after, ordered_after}

@@ -1,7 +1,5 @@
 -- One entity more of a snapshot.
 use Rattle.std.specs.Prelude.{◌≡◌, ◌<◌, ◌≤◌, ◌+◌, ℕ, zero, suc, List, [], ◌∷◌, ◌++◌, length, map, get_or, slice_get, take, drop, Some, cond, bytes_eq, refl}
-use Rattle.std.specs.Ordering.{match_ordering}
-use Rattle.std.specs.declared.cmp.Ordering.TheVariants as order
 use Rattle.std.specs.BTreeMap.{insert_entry}
 use Rattle.std.proofs.Common.{sym, ap, ◌∙◌, arith}
 use Rattle.std.proofs.lemmas.List.{drop_all, take_more, drop_more, map-append}
@@ -14,7 +12,7 @@ use Rattle.rule_history.proofs.Keyed.{insert-mapped}
 use Rattle.rule_history.specs.History.{ordered_after}
 use Rattle.rule_table.specs.Order.{key_cmp}
 use Rattle.judging.specs.Seats.{Seat, count_id, id_of, seated_after, seats}
-use Rattle.snapshot_keys.specs.Places.{Places, AreWithin, entity_at, placed}
+use Rattle.snapshot_keys.specs.Places.{Places, entity_at, placed}
 
 count_last : (es : List (Value entity)) (e : Value entity) (id : List ℕ) → count_id (es ++ e ∷ []) id ≡ cond (bytes_eq (id_of e) id) 1 0 + count_id es id
 count_last [] e id = refl
