@@ -11,7 +11,7 @@ HERE = pathlib.Path(__file__).resolve().parent
 FILES = ["city", "feed.pb", "list.csv"]
 # What is typed, and what is offered.
 CASES = [
-    ("", ["check", "encode", "follow", "predict", "show", "trial"]),
+    ("", ["check", "encode", "follow", "merge", "predict", "show", "trial"]),
     ("ch", ["check"]),
     ("check --", ["--now", "--timetable"]),
     ("check --now 5 --", ["--timetable"]),
@@ -28,6 +28,9 @@ CASES = [
     ("show --", []),
     ("show fe", ["feed.pb"]),
     ("encode li", ["list.csv"]),
+    ("merge --", []),
+    ("merge fe", ["feed.pb"]),
+    ("merge feed.pb li", ["list.csv"]),
     ("trial ", []),
     ("wrong --", []),
 ]

@@ -7,6 +7,7 @@ declare -gA _rt_command_takes=(
     [predict]='1 --timetable --zone-rule --zone-file --now'
     [show]='1'
     [encode]='1'
+    [merge]='16'
     [trial]='0'
 )
 

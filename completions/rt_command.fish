@@ -42,5 +42,7 @@ complete -c rt_command -n __fish_use_subcommand -a show -d 'write a snapshot as 
 
 complete -c rt_command -n __fish_use_subcommand -a encode -d 'write the snapshot that JSON says'
 
+complete -c rt_command -n __fish_use_subcommand -a merge -d 'write several snapshots as one'
+
 complete -c rt_command -n __fish_use_subcommand -a trial -d 'follow two feeds made from a number'
 complete -c rt_command -n '__fish_seen_subcommand_from trial' -f

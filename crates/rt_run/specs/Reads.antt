@@ -2,7 +2,7 @@
 use Rattle.std.specs.Prelude.{◌≡◌, ℕ, List, [], ◌∷◌, ◌⊎◌, length, Option, Some, None, Contains, ⊤}
 use Rattle.rt_outside.specs.Store.{Contents}
 use Rattle.run_words.specs.declared.request.Request.{Request}
-use Rattle.run_words.specs.declared.request.Request.TheVariants.{Check, Follow, Predict, Show, Encode, Trial}
+use Rattle.run_words.specs.declared.request.Request.TheVariants.{Check, Follow, Predict, Show, Encode, Merge, Trial}
 use Rattle.run_base.specs.declared.status.Status.{Status}
 use Rattle.run_base.specs.declared.status.Status.TheVariants as answer
 use Rattle.run_base.specs.Faults.{IsErrorText}
@@ -21,6 +21,7 @@ Reads (Some (Follow folder list)) told name = IsFollowed told folder list name
 Reads (Some (Predict folder zone now file)) told name = (Contains (file ∷ []) name ⊎ IsZoneFile zone name) ⊎ IsTableFile (Some folder) name
 Reads (Some (Show file)) told name = Contains (file ∷ []) name
 Reads (Some (Encode file)) told name = Contains (file ∷ []) name
+Reads (Some (Merge files)) told name = Contains files name
 Reads (Some (Trial seed)) told name = IsTrialFile name
 
 -- the requests that no engine serves; one file is checked without one
@@ -31,6 +32,7 @@ IsWithoutEngine (Some (Follow folder list)) = ⊥
 IsWithoutEngine (Some (Predict folder zone now file)) = ⊤
 IsWithoutEngine (Some (Show file)) = ⊤
 IsWithoutEngine (Some (Encode file)) = ⊤
+IsWithoutEngine (Some (Merge files)) = ⊤
 IsWithoutEngine (Some (Trial seed)) = ⊥
 
 -- the answers where the words give no request

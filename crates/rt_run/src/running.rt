@@ -14,6 +14,7 @@ use run_base::{Status, say, say_memory};
 use run_check::check;
 use run_follow::follow;
 use run_json::{encode, show};
+use run_merge::merge;
 use run_predict::predict;
 use run_trial::trial;
 use run_words::{Request, words_of};
@@ -26,6 +27,7 @@ const USAGE: &[u8] = b"usage: rt_command check [--timetable DIR] [--now N] FILE.
        rt_command show FILE
        rt_command encode FILE
        rt_command trial N
+       rt_command merge FILE...
 ";
 
 /// Carries out the request of the words after the program's name, at the moment `now`, as POSIX
@@ -138,6 +140,7 @@ fn carry_out<F: Files, S: Sink, E: Sink, D: Ledger, T: Ledger>(
         }
         Request::Show { file } => show(alloc, file.as_str(), files, out, err),
         Request::Encode { file } => encode(alloc, file.as_str(), files, out, err),
+        Request::Merge { files: names } => merge(alloc, names, files, out, err),
         Request::Trial { seed } => trial(alloc, *seed, out, err, decodes, tests),
     }
 }

@@ -25,5 +25,8 @@ returns-in-Show-clause-carried g c =
 pub returns-in-Encode-clause-carried : goal.returns-in-Encode-clause-carried
 returns-in-Encode-clause-carried g c = rw c.in-Encode.is (carried_name encode_report _ _ _ _ c.encode.result c.as_str-in-Encode.ensures c.encode.ensures)
 
+pub returns-in-Merge-clause-carried : goal.returns-in-Merge-clause-carried
+returns-in-Merge-clause-carried g c = rw c.in-Merge.is c.merge.ensures
+
 pub returns-in-Trial-clause-carried : goal.returns-in-Trial-clause-carried
 returns-in-Trial-clause-carried g c = rw c.in-Trial.is (c.trial.ensures (g.F.Files.state c.args.files.now))
