@@ -11,7 +11,7 @@ HERE = pathlib.Path(__file__).resolve().parent
 FILES = ["city", "feed.pb", "list.csv"]
 # What is typed, and what is offered.
 CASES = [
-    ("", ["check", "encode", "follow", "predict", "show", "trial"]),
+    ("", ["check", "encode", "follow", "predict", "show", "trial", "verify"]),
     ("ch", ["check"]),
     ("check --", ["--now", "--timetable"]),
     ("check --now 5 --", ["--timetable"]),
@@ -29,6 +29,8 @@ CASES = [
     ("show fe", ["feed.pb"]),
     ("encode li", ["list.csv"]),
     ("trial ", []),
+    ("verify --", []),
+    ("verify li", ["list.csv"]),
     ("wrong --", []),
 ]
 

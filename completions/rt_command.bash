@@ -8,6 +8,7 @@ declare -gA _rt_command_takes=(
     [show]='1'
     [encode]='1'
     [trial]='0'
+    [verify]='1'
 )
 
 _rt_command() {

@@ -5,8 +5,8 @@
 //! hinders a run, a failed read, a failed write or want of memory, is answered and told on the
 //! error stream, and what stands on the output is then a prefix of the report.
 //!
-//! Each command is carried out by a crate of its own: run_check, run_follow, run_predict, run_json for `show` and `encode`, and
-//! run_trial. run_words reads the words, and run_base has what all commands share. Here they are joined: `running` carries out the
+//! Each command is carried out by a crate of its own: run_check, run_follow, run_predict, run_json for `show` and `encode`,
+//! run_trial and run_verify. run_words reads the words, and run_base has what all commands share. Here they are joined: `running` carries out the
 //! request of the words.
 #![tactic(auto)]
 

@@ -16,6 +16,7 @@ use run_follow::follow;
 use run_json::{encode, show};
 use run_predict::predict;
 use run_trial::trial;
+use run_verify::verify;
 use run_words::{Request, words_of};
 use std::alloc::Global;
 use std::sync::ledger::Ledger;
@@ -26,6 +27,7 @@ const USAGE: &[u8] = b"usage: rt_command check [--timetable DIR] [--now N] FILE.
        rt_command show FILE
        rt_command encode FILE
        rt_command trial N
+       rt_command verify REPORT
 ";
 
 /// Carries out the request of the words after the program's name, at the moment `now`, as POSIX
@@ -139,5 +141,6 @@ fn carry_out<F: Files, S: Sink, E: Sink, D: Ledger, T: Ledger>(
         Request::Show { file } => show(alloc, file.as_str(), files, out, err),
         Request::Encode { file } => encode(alloc, file.as_str(), files, out, err),
         Request::Trial { seed } => trial(alloc, *seed, out, err, decodes, tests),
+        Request::Verify { file } => verify(alloc, file.as_str(), files, out, err),
     }
 }

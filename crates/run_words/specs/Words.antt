@@ -9,7 +9,7 @@ use Rattle.run_words.specs.declared.options.Options.{Options}
 use Rattle.run_words.specs.declared.zone_word.ZoneWord.{ZoneWord}
 use Rattle.run_words.specs.declared.zone_word.ZoneWord.TheVariants.{Rule, File}
 use Rattle.run_words.specs.declared.request.Request.{Request}
-use Rattle.run_words.specs.declared.request.Request.TheVariants.{Check, Follow, Predict, Show, Encode, Trial}
+use Rattle.run_words.specs.declared.request.Request.TheVariants.{Check, Follow, Predict, Show, Encode, Trial, Verify}
 
 abbrev pub no_options : Options
 no_options = record { folder = None; moment = None; list = None; zone = None }
@@ -111,7 +111,8 @@ request (name ∷ words) =
     else (if bytes_eq name (codes "predict") then options_of command.Predict no_options words
     else (if bytes_eq name (codes "show") then file_of Show words
     else (if bytes_eq name (codes "encode") then file_of Encode words
-    else (if bytes_eq name (codes "trial") then trial_of words else None)))))
+    else (if bytes_eq name (codes "trial") then trial_of words
+    else (if bytes_eq name (codes "verify") then file_of Verify words else None))))))
 
 -- a request whose feeds can be numbered
 abbrev pub NamesFiles : Request → Type 0
@@ -121,3 +122,4 @@ NamesFiles (Predict folder zone now file) = ⊤
 NamesFiles (Show file) = ⊤
 NamesFiles (Encode file) = ⊤
 NamesFiles (Trial seed) = ⊤
+NamesFiles (Verify file) = ⊤
