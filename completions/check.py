@@ -11,7 +11,7 @@ HERE = pathlib.Path(__file__).resolve().parent
 FILES = ["city", "feed.pb", "list.csv"]
 # What is typed, and what is offered.
 CASES = [
-    ("", ["check", "encode", "follow", "merge", "predict", "show", "trial"]),
+    ("", ["check", "encode", "follow", "merge", "predict", "show", "trial", "verify"]),
     ("ch", ["check"]),
     ("check --", ["--now", "--timetable"]),
     ("check --now 5 --", ["--timetable"]),
@@ -32,6 +32,8 @@ CASES = [
     ("merge fe", ["feed.pb"]),
     ("merge feed.pb li", ["list.csv"]),
     ("trial ", []),
+    ("verify --", []),
+    ("verify li", ["list.csv"]),
     ("wrong --", []),
 ]
 

@@ -9,6 +9,7 @@ declare -gA _rt_command_takes=(
     [encode]='1'
     [merge]='16'
     [trial]='0'
+    [verify]='1'
 )
 
 _rt_command() {

@@ -46,3 +46,5 @@ complete -c rt_command -n __fish_use_subcommand -a merge -d 'write several snaps
 
 complete -c rt_command -n __fish_use_subcommand -a trial -d 'follow two feeds made from a number'
 complete -c rt_command -n '__fish_seen_subcommand_from trial' -f
+
+complete -c rt_command -n __fish_use_subcommand -a verify -d 'judge a report by itself'

@@ -2,7 +2,7 @@
 use Rattle.std.specs.Prelude.{◌≡◌, ℕ, List, [], ◌∷◌, ◌⊎◌, length, Option, Some, None, Contains, ⊤}
 use Rattle.rt_outside.specs.Store.{Contents}
 use Rattle.run_words.specs.declared.request.Request.{Request}
-use Rattle.run_words.specs.declared.request.Request.TheVariants.{Check, Follow, Predict, Show, Encode, Merge, Trial}
+use Rattle.run_words.specs.declared.request.Request.TheVariants.{Check, Follow, Predict, Show, Encode, Merge, Trial, Verify}
 use Rattle.run_base.specs.declared.status.Status.{Status}
 use Rattle.run_base.specs.declared.status.Status.TheVariants as answer
 use Rattle.run_base.specs.Faults.{IsErrorText}
@@ -23,6 +23,7 @@ Reads (Some (Show file)) told name = Contains (file ∷ []) name
 Reads (Some (Encode file)) told name = Contains (file ∷ []) name
 Reads (Some (Merge files)) told name = Contains files name
 Reads (Some (Trial seed)) told name = IsTrialFile name
+Reads (Some (Verify file)) told name = Contains (file ∷ []) name
 
 -- the requests that no engine serves; one file is checked without one
 abbrev pub IsWithoutEngine : Option Request → Type 0
@@ -34,6 +35,7 @@ IsWithoutEngine (Some (Show file)) = ⊤
 IsWithoutEngine (Some (Encode file)) = ⊤
 IsWithoutEngine (Some (Merge files)) = ⊤
 IsWithoutEngine (Some (Trial seed)) = ⊥
+IsWithoutEngine (Some (Verify file)) = ⊤
 
 -- the answers where the words give no request
 abbrev pub IsWithoutRequest : Status → Type 0

@@ -2,7 +2,7 @@
 use Rattle.std.specs.Prelude.{◌≡◌, ℕ, List, [], codes, Option, Some, None, unwrap_or}
 use Rattle.rt_outside.specs.Store.{Contents}
 use Rattle.run_words.specs.declared.request.Request.{Request}
-use Rattle.run_words.specs.declared.request.Request.TheVariants.{Check, Follow, Predict, Show, Encode, Merge, Trial}
+use Rattle.run_words.specs.declared.request.Request.TheVariants.{Check, Follow, Predict, Show, Encode, Merge, Trial, Verify}
 use Rattle.run_words.specs.Words.{request}
 use Rattle.run_base.specs.declared.status.Status.TheVariants as answer
 use Rattle.run_base.specs.Carried.{Extent}
@@ -13,9 +13,10 @@ use Rattle.run_json.specs.Reports.{encode_report, shown_report}
 use Rattle.run_merge.specs.Merged.{merge_report}
 use Rattle.run_predict.specs.Predicted.{IsPredictReport}
 use Rattle.run_trial.specs.Tried.{trial_report}
+use Rattle.run_verify.specs.Verified.{verify_report}
 
 abbrev pub usage_text : List ℕ
-usage_text = codes "usage: rt_command check [--timetable DIR] [--now N] FILE...\n       rt_command follow [--timetable DIR] --list FILE\n       rt_command predict --timetable DIR (--zone-rule TEXT | --zone-file FILE) [--now N] FILE\n       rt_command show FILE\n       rt_command encode FILE\n       rt_command trial N\n       rt_command merge FILE...\n"
+usage_text = codes "usage: rt_command check [--timetable DIR] [--now N] FILE...\n       rt_command follow [--timetable DIR] --list FILE\n       rt_command predict --timetable DIR (--zone-rule TEXT | --zone-file FILE) [--now N] FILE\n       rt_command show FILE\n       rt_command encode FILE\n       rt_command trial N\n       rt_command verify REPORT\n       rt_command merge FILE...\n"
 
 -- the report where the words give no request
 abbrev pub usage_report : Report
@@ -31,6 +32,7 @@ IsAsked (Show file) now extent contents report = report ≡ file_report shown_re
 IsAsked (Encode file) now extent contents report = report ≡ encode_report file contents
 IsAsked (Merge files) now extent contents report = report ≡ merge_report files contents
 IsAsked (Trial seed) now extent contents report = report ≡ trial_report seed
+IsAsked (Verify file) now extent contents report = report ≡ verify_report file contents
 
 abbrev pub IsReportOf : Option Request → ℕ → Extent → Contents → Report → Type 0
 IsReportOf None now extent contents report = report ≡ usage_report

@@ -17,6 +17,7 @@ use run_json::{encode, show};
 use run_merge::merge;
 use run_predict::predict;
 use run_trial::trial;
+use run_verify::verify;
 use run_words::{Request, words_of};
 use std::alloc::Global;
 use std::sync::ledger::Ledger;
@@ -27,6 +28,7 @@ const USAGE: &[u8] = b"usage: rt_command check [--timetable DIR] [--now N] FILE.
        rt_command show FILE
        rt_command encode FILE
        rt_command trial N
+       rt_command verify REPORT
        rt_command merge FILE...
 ";
 
@@ -142,5 +144,6 @@ fn carry_out<F: Files, S: Sink, E: Sink, D: Ledger, T: Ledger>(
         Request::Encode { file } => encode(alloc, file.as_str(), files, out, err),
         Request::Merge { files: names } => merge(alloc, names, files, out, err),
         Request::Trial { seed } => trial(alloc, *seed, out, err, decodes, tests),
+        Request::Verify { file } => verify(alloc, file.as_str(), files, out, err),
     }
 }

@@ -11,7 +11,7 @@ use Rattle.feed_list.specs.Values.{is_path, path_of, number_of}
 use Rattle.run_words.specs.declared.command.Command.{Command}
 use Rattle.run_words.specs.declared.command.Command.TheVariants as command
 use Rattle.run_words.specs.declared.request.Request.{Request}
-use Rattle.run_words.specs.declared.request.Request.TheVariants.{Check, Follow, Predict, Show, Encode, Merge, Trial}
+use Rattle.run_words.specs.declared.request.Request.TheVariants.{Check, Follow, Predict, Show, Encode, Merge, Trial, Verify}
 use Rattle.run_words.specs.declared.options.Options.{Options}
 use Rattle.run_words.specs.declared.zone_word.ZoneWord.{ZoneWord}
 use Rattle.run_words.specs.Words.{request, no_options, are_files, check_of, file_limit, files_in, follow_of, predict_of, predicted, one_file, asked_of, options_of, file_of, merge_of, trial_of, with_option, NamesFiles}
@@ -120,7 +120,8 @@ request_names_files (name ∷ words) asked e =
     (either_of (bytes_eq name (codes "show")) (file_of Show words) _ asked (file_has Show (λ file. tt) words asked)
     (either_of (bytes_eq name (codes "encode")) (file_of Encode words) _ asked (file_has Encode (λ file. tt) words asked)
     (either_of (bytes_eq name (codes "merge")) (merge_of words) _ asked (merge_has words asked)
-    (either_of (bytes_eq name (codes "trial")) (trial_of words) None asked (trial_has words asked) (none asked))))))) e
+    (either_of (bytes_eq name (codes "trial")) (trial_of words) _ asked (trial_has words asked)
+    (either_of (bytes_eq name (codes "verify")) (file_of Verify words) None asked (file_has Verify (λ file. tt) words asked) (none asked)))))))) e
 
 -- ---- words behind options
 -- fewer than two words hold no option and its value

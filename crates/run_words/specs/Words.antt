@@ -9,7 +9,7 @@ use Rattle.run_words.specs.declared.options.Options.{Options}
 use Rattle.run_words.specs.declared.zone_word.ZoneWord.{ZoneWord}
 use Rattle.run_words.specs.declared.zone_word.ZoneWord.TheVariants.{Rule, File}
 use Rattle.run_words.specs.declared.request.Request.{Request}
-use Rattle.run_words.specs.declared.request.Request.TheVariants.{Check, Follow, Predict, Show, Encode, Merge, Trial}
+use Rattle.run_words.specs.declared.request.Request.TheVariants.{Check, Follow, Predict, Show, Encode, Merge, Trial, Verify}
 
 abbrev pub no_options : Options
 no_options = record { folder = None; moment = None; list = None; zone = None }
@@ -116,7 +116,8 @@ request (name ∷ words) =
     else (if bytes_eq name (codes "show") then file_of Show words
     else (if bytes_eq name (codes "encode") then file_of Encode words
     else (if bytes_eq name (codes "merge") then merge_of words
-    else (if bytes_eq name (codes "trial") then trial_of words else None))))))
+    else (if bytes_eq name (codes "trial") then trial_of words
+    else (if bytes_eq name (codes "verify") then file_of Verify words else None)))))))
 
 -- a request whose feeds can be numbered
 abbrev pub NamesFiles : Request → Type 0
@@ -127,3 +128,4 @@ NamesFiles (Show file) = ⊤
 NamesFiles (Encode file) = ⊤
 NamesFiles (Merge files) = length files ≤ file_limit
 NamesFiles (Trial seed) = ⊤
+NamesFiles (Verify file) = ⊤

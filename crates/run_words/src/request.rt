@@ -47,4 +47,8 @@ pub enum Request {
     Trial {
         seed: u64,
     },
+    /// To judge each line of the report in this file by itself.
+    Verify {
+        file: Text,
+    },
 }

@@ -1,7 +1,7 @@
 //! The words of a command line.
 ghost use Rattle.std.specs.Prelude.{◌≡◌, IfOk, ◌∷◌, map, option_map, string_bytes};
 ghost use Rattle.run_words.specs.Words.{asked_of, check_of, files_in, follow_of, predict_of, predicted, one_file, options_of, file_of, merge_of, trial_of, request};
-ghost use Rattle.run_words.specs.declared.request.Request.TheVariants.{Show, Encode};
+ghost use Rattle.run_words.specs.declared.request.Request.TheVariants.{Show, Encode, Verify};
 
 use crate::command::Command;
 use crate::options::{Options, path_of};
@@ -19,9 +19,9 @@ const FILE_LIMIT: usize = 16;
 /// These are `check` with 1 to 16 files, and before them `--timetable` with a folder and `--now` with a moment;
 /// `follow` with `--list` and a file, and `--timetable` with a folder; `predict` with one file, and before it `--timetable`
 /// with a folder, one of `--zone-rule` with a text and `--zone-file` with a file, and `--now` with a moment; `show` and
-/// `encode`, each with one file; `merge` with 1 to 16 files; and `trial` with a number. Options stand before the files in any order,
-/// each at most once. A number has 1 to 20 digits, and its value fits 64 bits. No file and no value of an option is empty or begins
-/// with a dash.
+/// `encode`, each with one file; `trial` with a number; `verify` with one file; and `merge` with 1 to 16 files. Options stand before the
+/// files in any order, each at most once. A number has 1 to 20 digits, and its value fits 64 bits. No file and no value of an option is
+/// empty or begins with a dash.
 pub fn words_of(alloc: Global, words: &[String]) -> Result<Option<Request>, AllocError>
     ensures { IfOk result (λ found. found ≡ request (map string_bytes words.now)) }
 {
@@ -49,6 +49,8 @@ fn request_of(alloc: Global, command: &str, words: &[String]) -> Result<Option<R
         merge_of(alloc, words)
     } else if command == "trial" {
         Ok(trial_of(words))
+    } else if command == "verify" {
+        Ok(file_of(alloc, words)?.map(|file| Request::Verify { file }))
     } else {
         Ok(None)
     }
@@ -58,6 +60,7 @@ fn request_of(alloc: Global, command: &str, words: &[String]) -> Result<Option<R
 fn file_of(alloc: Global, words: &[String]) -> Result<Option<Text>, AllocError>
     ensures show { IfOk result (λ file. option_map Show file ≡ file_of Show (map string_bytes words.now)) }
     ensures encode { IfOk result (λ file. option_map Encode file ≡ file_of Encode (map string_bytes words.now)) }
+    ensures verify { IfOk result (λ file. option_map Verify file ≡ file_of Verify (map string_bytes words.now)) }
     ensures file { IfOk result (λ file. file ≡ one_file (map string_bytes words.now)) }
 {
     match words {

@@ -2,6 +2,7 @@ use Rattle.std.proofs.Common.{refl}
 use Rattle.rt_outside.specs.Store.{contents_told}
 use Rattle.run_json.specs.Reports.{shown_report, encode_report}
 use Rattle.run_base.specs.Report.{file_report}
+use Rattle.run_verify.specs.Verified.{verify_report}
 use Rattle.rt_run.proofs.Asked.{carried_at, carried_listed, one_predicted}
 use Rattle.run_base.proofs.Chosen.{carried_name}
 use Rattle.rt_run.proofs.running.carry_out.Goals as goal
@@ -30,3 +31,6 @@ returns-in-Merge-clause-carried g c = rw c.in-Merge.is c.merge.ensures
 
 pub returns-in-Trial-clause-carried : goal.returns-in-Trial-clause-carried
 returns-in-Trial-clause-carried g c = rw c.in-Trial.is (c.trial.ensures (g.F.Files.state c.args.files.now))
+
+pub returns-in-Verify-clause-carried : goal.returns-in-Verify-clause-carried
+returns-in-Verify-clause-carried g c = rw c.in-Verify.is (carried_name verify_report _ _ _ _ c.verify.result c.as_str-in-Verify.ensures c.verify.ensures)
