@@ -13,14 +13,6 @@ use rule_table::{Fact, cell_of, is_in_range};
 use serde_json::Value;
 use std::alloc::{AllocError, Global};
 
-fn text_of(alloc: Global, text: &str) -> Result<Text, AllocError>
-    ensures { IfOk result (λ owned. owned ≡ text.now) }
-{
-    let mut owned = Text::new(alloc);
-    owned.push(text)?;
-    Ok(owned)
-}
-
 /// A cell: nothing, a whole number or a text.
 fn cell_from(alloc: Global, value: &Value) -> Result<Option<CellValue>, AllocError>
     ensures { IfOk result (λ cell. cell ≡ cell_of (view value.now)) }
@@ -31,7 +23,7 @@ fn cell_from(alloc: Global, value: &Value) -> Result<Option<CellValue>, AllocErr
             Some(number) => Ok(Some(CellValue::Number(number))),
             None => Ok(None),
         },
-        Value::String(text) => Ok(Some(CellValue::Text(text_of(alloc, text.as_str())?))),
+        Value::String(text) => Ok(Some(CellValue::Text(Text::of(alloc, text.as_str())?))),
         _ => Ok(None),
     }
 }
@@ -62,7 +54,7 @@ fn texts_of(alloc: Global, values: &[Value]) -> Result<Option<Vec<Text>>, AllocE
         let Some(text) = value.as_str() else {
             return Ok(None);
         };
-        texts.push(text_of(alloc, text)?)?;
+        texts.push(Text::of(alloc, text)?)?;
     }
     Ok(Some(texts))
 }

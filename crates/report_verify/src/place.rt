@@ -41,11 +41,9 @@ fn placed(alloc: Global, feed: u8, path: Path, finding: &Value) -> Result<Option
     let Some(text) = text_at(finding, "id") else {
         return Ok(None);
     };
-    let mut id = Text::new(alloc);
-    id.push(text)?;
     let key = EntityKey {
         feed,
-        id,
+        id: Text::of(alloc, text)?,
         occurrence,
     };
     Ok(Some(Place::Entity(key, path)))

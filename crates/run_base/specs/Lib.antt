@@ -6,4 +6,5 @@ pub mod Faults
 pub mod Inputs
 pub mod Found
 pub mod Pieces
+pub mod Sending
 pub use Rattle.snapshot_lines.specs.Lines

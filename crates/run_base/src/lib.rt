@@ -7,6 +7,7 @@
 //! - `status` and `fault` are how a run ends, and why it stops before its end.
 //! - `saying` writes to the error stream. `input_fault` is why an input isn't had, and tells it.
 //! - `refused` has the text of a refused input, and writes the line of a refused snapshot.
+//! - `sending` holds text back until it fills a piece.
 //! - `snapshot_file` reads a snapshot, as a message or as its bytes.
 #![tactic(auto)]
 
@@ -14,6 +15,7 @@ mod fault;
 mod input_fault;
 mod refused;
 mod saying;
+mod sending;
 mod snapshot_file;
 mod status;
 
@@ -21,5 +23,6 @@ pub use fault::Fault;
 pub use input_fault::{InputFault, say_input_fault};
 pub use refused::{put_refused, refused_text};
 pub use saying::{say, say_fault, say_memory};
+pub use sending::send_piece;
 pub use snapshot_file::{read_kept, read_snapshot};
 pub use status::Status;

@@ -11,7 +11,7 @@ use Rattle.rule_history.specs.Standing.{Standing}
 use Rattle.follow_engine.specs.Left.{standing_of}
 use Rattle.rt_report.specs.declared.finding.LineKind.TheVariants as line
 use Rattle.rt_report.proofs.Joined.{or_apart, or_false}
-use Rattle.run_snapshot.specs.Sending.{SendsText}
+use Rattle.run_base.specs.Sending.{SendsText}
 use Rattle.rt_report.specs.FindingLines.{all_text, any_error, is_error, standing_text}
 
 -- ---- a finding that is handed out

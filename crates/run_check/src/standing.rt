@@ -9,8 +9,7 @@ ghost use Rattle.run_check.specs.Waiting.{AreWritten};
 use follow_engine::Engine;
 use rt_outside::{Sink, put_all};
 use rt_report::Lines;
-use run_base::Fault;
-use run_snapshot::send_piece;
+use run_base::{Fault, send_piece};
 use std::alloc::Global;
 
 /// Writes the lines of all findings that stand with an engine, and answers whether one is of an error. They are held back until

@@ -7,12 +7,6 @@ use Rattle.rule_table.specs.Found.{Found}
 use Rattle.rt_report.specs.declared.lines.Lines.{Lines}
 use Rattle.rt_report.specs.FindingLines.{finding_text, has_error}
 
--- a front of a text was written, and its rest is held back
-pub record SendsText (before after : Option (List ℕ)) (text rest : List ℕ) : Type 0 where
-  pub sent : List ℕ
-  pub written : after ≡ append_known before sent
-  pub text_is : sent ++ rest ≡ text
-
 -- Lines are held back behind what was written. Those of some findings were added to them, and a front of all of these was
 -- written and is held no more.
 pub record Sends (before after : Option (List ℕ)) (old new : Lines) (findings : List Found) : Type 0 where

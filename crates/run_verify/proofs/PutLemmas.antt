@@ -19,7 +19,7 @@ use Rattle.run_base.specs.Inputs.{FailsAt, SaysInputFault}
 use Rattle.run_base.specs.Outside.{outside}
 use Rattle.run_base.specs.Report.{Report, refused_input}
 use Rattle.run_base.proofs.Carried.{carried_input, input_more}
-use Rattle.run_verify.specs.Sending.{SendsText}
+use Rattle.run_base.specs.Sending.{SendsText}
 use Rattle.run_verify.specs.Verified.{FailsRead, IsRefused, TellsEnd, held_report, judged_report, large_text, report_limit, verify_report}
 
 -- ---- all verdicts were sent or are held back, and then comes their sum

@@ -9,7 +9,7 @@ use Rattle.run_verify.specs.declared.counts.Counts.{Counts}
 use Rattle.run_verify.specs.declared.judged.Judged.{Judged}
 use Rattle.run_verify.specs.Judged.{judged_of}
 use Rattle.run_verify.specs.Lines.{AreSmall, counted, counts_of, how_many, is_confirmed, is_denied, is_malformed, is_other, lines_in, none, one_if, verdict_text, verdicts_text}
-use Rattle.run_verify.specs.Sending.{SendsText}
+use Rattle.run_base.specs.Sending.{SendsText}
 use Rattle.run_verify.proofs.CutLemmas.{few_behind}
 
 pub at_err : {T E A : Type 0} (r : Result T E) → A → OnErr r A

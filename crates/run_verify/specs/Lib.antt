@@ -1,4 +1,3 @@
 pub mod Verified
 pub mod Lines
-pub mod Sending
 pub mod Judged

@@ -1,35 +1,19 @@
 //! The verdicts on the lines of a text, sent as they are decided.
 ghost use Rattle.std.specs.Prelude.{◌≡◌, ◌≤◌, ◌<◌, ◌++◌, ◌^◌, IfOk, OnOk, OnErr, IsErrOf, length};
-ghost use Rattle.rt_outside.specs.Causes.{HasCause, Rose};
+ghost use Rattle.rt_outside.specs.Causes.{Rose};
 ghost use Rattle.rt_outside.specs.Sink.{AppendsPrefix};
 ghost use Rattle.report_verify.specs.Verdicts.{verdict_of};
 ghost use Rattle.run_verify.specs.Lines.{AreSmall, counted, counts_of, lines_in, verdict_text, verdicts_text};
 ghost use Rattle.run_verify.specs.Judged.{judged_of};
-ghost use Rattle.run_verify.specs.Sending.{SendsText};
+ghost use Rattle.run_base.specs.Sending.{SendsText};
 
 use crate::counts::Counts;
 use crate::cutting::cut_line;
 use crate::judged::judge;
 use crate::lines::push_verdict;
-use rt_outside::{Failed, Sink, put_all};
-use run_base::Fault;
+use rt_outside::Sink;
+use run_base::{Fault, send_piece};
 use std::alloc::Global;
-
-// How many bytes make a piece: what a system writes well at once.
-const PIECE: usize = 65536;
-
-// Writes a text that fills a piece, and empties it.
-fn send_piece<S: Sink>(text: &mut Vec<u8>, out: &mut S) -> Result<(), Failed>
-    ensures ok { OnOk result (SendsText (S.state out.old).written (S.state out.new).written text.old.items text.new.items) }
-    ensures err { OnErr result (AppendsPrefix (S.state out.old).written (S.state out.new).written text.old.items) }
-    ensures cause { HasCause (S.state out.old).faults (S.state out.new).faults result }
-{
-    if text.len() >= PIECE {
-        put_all(out, text)?;
-        text.clear();
-    }
-    Ok(())
-}
 
 // Sends the verdict on the line with this number, and counts it.
 fn send_line<S: Sink>(

@@ -1,4 +1,4 @@
--- What the code holds while it sends verdicts.
+-- Text that is held back until it fills a piece.
 use Rattle.std.specs.Prelude.{◌≡◌, ◌++◌, ℕ, List, Option}
 use Rattle.std.specs.Io.KnownBytes.{append_known}
 
