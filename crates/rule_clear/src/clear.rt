@@ -89,9 +89,7 @@ fn are_sequenced(stops: &[StopTimeUpdate]) -> bool
 fn are_unassigned(stops: &[StopTimeUpdate]) -> bool
     ensures { result ≡ list_all (λ stop. is_none stop.stop_time_properties) stops.now }
 {
-    stops
-        .iter()
-        .all(|stop| stop.stop_time_properties.is_none())
+    stops.iter().all(|stop| stop.stop_time_properties.is_none())
 }
 
 impl Look {

@@ -1,8 +1,8 @@
 //! The snapshot, its header and its entities, written.
 
 use crate::encoding::{
-    Encode, put_apart, put_bool, put_enum, put_message, put_optional_text, put_repeated, put_text, put_u64,
-    put_unknown,
+    Encode, put_apart, put_bool, put_enum, put_message, put_optional_text, put_repeated, put_text,
+    put_u64, put_unknown,
 };
 use feed_values::{Entity, FeedHeader, FeedMessage};
 use std::alloc::{AllocError, Global};

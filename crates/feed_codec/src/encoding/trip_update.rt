@@ -1,8 +1,8 @@
 //! Trip updates and what they hold, written.
 
 use crate::encoding::{
-    Encode, put_apart, put_enum, put_i32, put_i64, put_message, put_optional, put_optional_text, put_repeated,
-    put_u32, put_u64, put_unknown,
+    Encode, put_apart, put_enum, put_i32, put_i64, put_message, put_optional, put_optional_text,
+    put_repeated, put_u32, put_u64, put_unknown,
 };
 use feed_values::{StopTimeEvent, StopTimeUpdate, TripUpdate};
 use std::alloc::{AllocError, Global};
