@@ -82,6 +82,9 @@ pub use entity::{check_entity, check_header_part, decode_entity, decode_header};
 pub use header::check_header;
 pub use laws::{missing_is_first, parts_decide, refusal_is_first};
 pub use payloads::{last_payload, payload_of};
-pub use properties::{decode_stop_time_properties, decode_trip_properties};
+pub use properties::{
+    check_stop_time_properties, check_trip_properties, decode_stop_time_properties,
+    decode_trip_properties,
+};
 pub use refusal::{Reason, Refusal, Required};
 pub use snapshot::{SNAPSHOT_LIMIT, check_snapshot, decode};

@@ -7,7 +7,7 @@ ghost use Rattle.feed_values.specs.Messages.{trip_properties, stop_time_properti
 ghost use Rattle.feed_values.specs.Views.{trip_properties_value, stop_time_properties_value};
 ghost use Rattle.feed_values.specs.WellFormed.{IsWellFormed};
 ghost use Rattle.feed_codec.specs.Decoded.{Decodes};
-ghost use Rattle.feed_codec.specs.Refusal.{first_fault, first_in, in_payload, payload_fault};
+ghost use Rattle.feed_codec.specs.Refusal.{Answers, first_fault, first_in, in_payload, payload_fault};
 
 use crate::checking::{Checked, check_message, check_text};
 use crate::codec_fault::CodecFault;
@@ -108,6 +108,22 @@ fn decode_message<M: Message>(alloc: Global, bytes: &[u8]) -> Result<M, CodecFau
             Err(CodecFault::Memory)
         }
     }
+}
+
+/// The first fault of bytes as the properties of a trip, whose place counts from their first byte. It takes no memory.
+#[tactic(auto, unfolding(crate::specs::Refusal::first_fault))]
+pub fn check_trip_properties(bytes: &[u8]) -> Result<(), Refusal>
+    ensures { Answers result (first_fault trip_properties bytes.now) }
+{
+    check_message::<TripProperties>(bytes)
+}
+
+/// The same as the properties of a stop time.
+#[tactic(auto, unfolding(crate::specs::Refusal::first_fault))]
+pub fn check_stop_time_properties(bytes: &[u8]) -> Result<(), Refusal>
+    ensures { Answers result (first_fault stop_time_properties bytes.now) }
+{
+    check_message::<StopTimeProperties>(bytes)
 }
 
 /// What bytes mean as the properties of a trip, or their first fault, whose place counts from their first byte.

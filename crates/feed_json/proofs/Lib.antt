@@ -8,5 +8,7 @@ pub mod Names
 pub mod Numbers
 pub mod Residuals
 pub mod RoundTrip
+pub mod Settled
+pub mod Taken
 pub mod Texts
 pub mod Walking

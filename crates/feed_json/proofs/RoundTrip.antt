@@ -17,7 +17,9 @@ use Rattle.feed_json.specs.Faults.{paired}
 use Rattle.feed_json.specs.Form.{scalar_form, unknown_form, array_form, with_member, with_slots, form}
 use Rattle.feed_json.specs.Holds.{Holds, InJson}
 use Rattle.feed_json.proofs.Names.{NamesDiffer}
-use Rattle.feed_json.specs.Unform.{text_of, object_of, slot_at, array_at, each_of, unknown_of, is_key, slots_of, unform, scalar_of, field}
+use Rattle.feed_json.specs.Unform.{text_of, object_of, slot_at, array_at, each_of, unknown_of, is_key, settling, slots_of, unform, scalar_of, field}
+use Rattle.feed_json.specs.Later.{settled}
+use Rattle.feed_json.proofs.Settled.{settled_already, settling_again, unknown_item}
 use Rattle.feed_json.proofs.Members.{get_behind, get_other, get_same, known_slots, left_true, right_true, same_text}
 use Rattle.feed_json.proofs.Numbers.{natural_again, scalar_again}
 use Rattle.feed_json.proofs.Groups.{whole_group}
@@ -54,32 +56,32 @@ by_value whole number (Varint n) h =
     rw (
       natural_again 1 536870911 number h.writable.positive (omega (arith, h.writable.small)),
       natural_again 0 18446744073709551615 n (omega arith) (omega (arith, h.numbers)),
-      h.unknown,
+      unknown_item whole (field number (Varint n)) h,
     ) refl
 by_value whole number (Fixed64 n) h =
     rw (
       natural_again 1 536870911 number h.writable.positive (omega (arith, h.writable.small)),
       natural_again 0 18446744073709551615 n (omega arith) (omega (arith, h.numbers)),
-      h.unknown,
+      unknown_item whole (field number (Fixed64 n)) h,
     ) refl
 by_value whole number (Len payload) h =
     rw (
       natural_again 1 536870911 number h.writable.positive (omega (arith, h.writable.small)),
       decode_of-encode_lower payload h.numbers,
-      h.unknown,
+      unknown_item whole (field number (Len payload)) h,
     ) refl
 by_value whole number (Group group) h =
     rw (
       natural_again 1 536870911 number h.writable.positive (omega (arith, h.writable.small)),
       decode_of-encode_lower group h.numbers,
       whole_group group h.writable.group,
-      h.unknown,
+      unknown_item whole (field number (Group group)) h,
     ) refl
 by_value whole number (Fixed32 n) h =
     rw (
       natural_again 1 536870911 number h.writable.positive (omega (arith, h.writable.small)),
       natural_again 0 4294967295 n (omega arith) (omega (arith, h.numbers)),
-      h.unknown,
+      unknown_item whole (field number (Fixed32 n)) h,
     ) refl
 
 pub unknown_again : (whole : Schema) (f : WireField) → IsUnknown whole f → unknown_of whole (unknown_form f) ≡ Ok f
@@ -100,9 +102,9 @@ lacks_rest key rest o ms apart lacks k mine = by_case (bytes_eq k key) refl
     by_case true e = let same : k ≡ key = (bytes_eq-Decides k key).0 e in cc (rw same at mine)
     by_case false e = get_other k key o ms e ∙ lacks k mine
 
-object_again : (m : Schema) (w : Value m) → slots_of m m (object (with_slots m w no_members)) ≡ Ok w
-    → object_of (is_key m) (slots_of m m) (object (with_slots m w no_members)) ≡ Ok w
-object_again m w e = rw (known_slots (is_key m) m w no_members (λ k e. e) refl) e
+object_again : (m : Schema) (w : Value m) → slots_of m m (object (with_slots m w no_members)) ≡ Ok w → settled m w ≡ w
+    → object_of (is_key m) (λ d. settling m (slots_of m m d)) (object (with_slots m w no_members)) ≡ Ok w
+object_again m w e k = rw (known_slots (is_key m) m w no_members (λ k e. e) refl) (settling_again m (slots_of m m (object (with_slots m w no_members))) w e k)
 
 pub slots_again : (whole s : Schema) (v : Value s) (ms : Members) → NamesDiffer s → Holds whole s v → Lacks s ms
     → slots_of whole s (object (with_slots s v ms)) ≡ Ok v
@@ -129,24 +131,24 @@ slots_again whole (schema.text n name presence rest) v ms names h lacks =
 slots_again whole (schema.message n name presence m rest) v ms names h lacks =
     let write : Value m → Data = λ w. object (with_slots m w no_members) in
     let more = with_member (codes name) (option_map write (present presence v.0)) ms in
-    both (slot_at presence (codes name) (object_of (is_key m) (slots_of m m)) (get_member (codes name) (with_slots rest v.1 more))) (slots_of whole rest (object (with_slots rest v.1 more))) v.0 v.1
+    both (slot_at presence (codes name) (object_of (is_key m) (λ d. settling m (slots_of m m d))) (get_member (codes name) (with_slots rest v.1 more))) (slots_of whole rest (object (with_slots rest v.1 more))) v.0 v.1
     (rw (
       get_behind rest v.1 (codes name) more names.0,
       get_same (codes name) (option_map write (present presence v.0)) ms (lacks (codes name) (left_true _ _ (same_text (codes name)))),
     )
-    (slot_again presence (codes name) (object_of (is_key m) (slots_of m m)) write (Holds m m) v.0 (λ w p. object_again m w (slots_again m m w no_members names.1 p (λ k e. refl))) h.0))
+    (slot_again presence (codes name) (object_of (is_key m) (λ d. settling m (slots_of m m d))) write (Holds m m) v.0 (λ w p. object_again m w (slots_again m m w no_members names.1 p (λ k e. refl)) (settled_already m w p)) h.0))
     (slots_again whole rest v.1 more names.2 h.1 (lacks_rest (codes name) rest _ ms names.0 (λ k e. lacks k (right_true (bytes_eq k (codes name)) _ e))))
 slots_again whole (schema.repeated n name m rest) v ms names h lacks =
     let write : Value m → Data = λ w. object (with_slots m w no_members) in
     let more = with_member (codes name) (array_form (map write v.0)) ms in
-    both (array_at (codes name) (object_of (is_key m) (slots_of m m)) (get_member (codes name) (with_slots rest v.1 more))) (slots_of whole rest (object (with_slots rest v.1 more))) v.0 v.1
+    both (array_at (codes name) (object_of (is_key m) (λ d. settling m (slots_of m m d))) (get_member (codes name) (with_slots rest v.1 more))) (slots_of whole rest (object (with_slots rest v.1 more))) v.0 v.1
     (rw (
       get_behind rest v.1 (codes name) more names.0,
       get_same (codes name) (array_form (map write v.0)) ms (lacks (codes name) (left_true _ _ (same_text (codes name)))),
     )
-    (array_again (codes name) (object_of (is_key m) (slots_of m m)) write (Holds m m) v.0 (λ w p. object_again m w (slots_again m m w no_members names.1 p (λ k e. refl))) h.0))
+    (array_again (codes name) (object_of (is_key m) (λ d. settling m (slots_of m m d))) write (Holds m m) v.0 (λ w p. object_again m w (slots_again m m w no_members names.1 p (λ k e. refl)) (settled_already m w p)) h.0))
     (slots_again whole rest v.1 more names.2 h.1 (lacks_rest (codes name) rest _ ms names.0 (λ k e. lacks k (right_true (bytes_eq k (codes name)) _ e))))
 
 -- the tree of what JSON can hold says that value
 pub unform_form : (s : Schema) (v : Value s) → NamesDiffer s → Holds s s v → unform s (form s v) ≡ Ok v
-unform_form s v names h = object_again s v (slots_again s s v no_members names h (λ k e. refl))
+unform_form s v names h = object_again s v (slots_again s s v no_members names h (λ k e. refl)) (settled_already s v h)

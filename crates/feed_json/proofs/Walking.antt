@@ -1,5 +1,5 @@
 -- The first fault that `unform` names is the first of the walk.
-use Rattle.std.proofs.Common.{◌≡◌, ◌+◌, ◌↔◌, ℕ, List, [], ◌∷◌, ◌++◌, Bool, true, false, Option, Some, None, Result, Ok, Err, codes, refl, sym, ap, ◌∙◌, option_map}
+use Rattle.std.proofs.Common.{◌≡◌, ◌+◌, ◌↔◌, ℕ, List, [], ◌∷◌, ◌++◌, Bool, true, false, cond, Option, Some, None, Result, Ok, Err, codes, refl, sym, ap, ◌∙◌, option_map}
 use Rattle.std.specs.Option.{option_or}
 use Rattle.std.specs.List.{AllByRecursion}
 use Rattle.serde_json.specs.Data.{Data, Items, no_items, item, Members, no_members, member}
@@ -9,7 +9,8 @@ use Rattle.feed_values.specs.Schema.{Schema, Presence, Optional, Needed, Value}
 use Rattle.feed_json.specs.declared.json_fault.JsonFault.{JsonFault}
 use Rattle.feed_json.specs.declared.json_fault.JsonFault.TheVariants.{UnknownKey}
 use Rattle.feed_json.specs.Faults.{fault_below, item_key, under, paired, ◌>>=◌, unless}
-use Rattle.feed_json.specs.Unform.{of_kind, scalar_of, text_of, needed_at, slot_at, array_at, each_of, object_of, first_unknown, field_of, item_of, unknown_of, is_item_key, is_key, slots_of, unform}
+use Rattle.feed_json.specs.Unform.{of_kind, scalar_of, text_of, needed_at, slot_at, array_at, each_of, object_of, first_unknown, field_of, item_of, unknown_of, is_item_key, is_key, settling, slots_of, unform}
+use Rattle.feed_json.specs.Later.{has_later, settled}
 use Rattle.feed_json.specs.Walk.{IsFirst, fault_of, walk_under, walk_keys, walk_members, walk_object, walk_slot, walk_each, walk_items, walk_array, walk_unknown, number_of, wire_type_of, or_zero, walk_slots, walk_message}
 
 -- the first fault of a list of checks
@@ -138,6 +139,17 @@ unknown_walk whole d = three_checks (number_of d) (wire_type_of d) (λ number wi
 
 -- ---- messages
 
+settling_fault : (s : Schema) (r : Result (Value s) JsonFault) → fault_of (settling s r) ≡ fault_of r
+settling_fault s r = by_case (has_later s) r
+  where
+    by_case : (b : Bool) (r : Result (Value s) JsonFault) → fault_of (cond b (r >>= λ v. Ok (settled s v)) r) ≡ fault_of r
+    by_case true (Ok v) = refl
+    by_case true (Err e) = refl
+    by_case false r = refl
+
+settling_walk : (m : Schema) → Agree (slots_of m m) (walk_slots m m) → Agree (λ d. settling m (slots_of m m d)) (walk_slots m m)
+settling_walk m same d = settling_fault m (slots_of m m d) ∙ same d
+
 slots_walk : (whole s : Schema) → Agree (slots_of whole s) (walk_slots whole s)
 slots_walk whole schema.end d =
     array_walk (codes "unknown") (unknown_of whole) (walk_object is_item_key (walk_unknown whole)) (get (codes "unknown") d) (object_walk is_item_key (item_of whole) (walk_unknown whole) (unknown_walk whole))
@@ -156,22 +168,22 @@ slots_walk whole (schema.text n name presence rest) d =
       slots_walk whole rest d,
     ) refl
 slots_walk whole (schema.message n name presence m rest) d =
-    paired_fault (slot_at presence (codes name) (object_of (is_key m) (slots_of m m)) (get (codes name) d)) (slots_of whole rest d)
+    paired_fault (slot_at presence (codes name) (object_of (is_key m) (λ e. settling m (slots_of m m e))) (get (codes name) d)) (slots_of whole rest d)
     ∙ rw (
       first_append (walk_slot presence (codes name) (walk_object (is_key m) (walk_slots m m)) (get (codes name) d)) (walk_slots whole rest d),
-      slot_walk presence (codes name) (object_of (is_key m) (slots_of m m)) (walk_object (is_key m) (walk_slots m m)) (get (codes name) d) (object_walk (is_key m) (slots_of m m) (walk_slots m m) (slots_walk m m)),
+      slot_walk presence (codes name) (object_of (is_key m) (λ e. settling m (slots_of m m e))) (walk_object (is_key m) (walk_slots m m)) (get (codes name) d) (object_walk (is_key m) (λ e. settling m (slots_of m m e)) (walk_slots m m) (settling_walk m (slots_walk m m))),
       slots_walk whole rest d,
     ) refl
 slots_walk whole (schema.repeated n name m rest) d =
-    paired_fault (array_at (codes name) (object_of (is_key m) (slots_of m m)) (get (codes name) d)) (slots_of whole rest d)
+    paired_fault (array_at (codes name) (object_of (is_key m) (λ e. settling m (slots_of m m e))) (get (codes name) d)) (slots_of whole rest d)
     ∙ rw (
       first_append (walk_array (codes name) (walk_object (is_key m) (walk_slots m m)) (get (codes name) d)) (walk_slots whole rest d),
-      array_walk (codes name) (object_of (is_key m) (slots_of m m)) (walk_object (is_key m) (walk_slots m m)) (get (codes name) d) (object_walk (is_key m) (slots_of m m) (walk_slots m m) (slots_walk m m)),
+      array_walk (codes name) (object_of (is_key m) (λ e. settling m (slots_of m m e))) (walk_object (is_key m) (walk_slots m m)) (get (codes name) d) (object_walk (is_key m) (λ e. settling m (slots_of m m e)) (walk_slots m m) (settling_walk m (slots_walk m m))),
       slots_walk whole rest d,
     ) refl
 
 message_walk : (s : Schema) (d : Data) → fault_of (unform s d) ≡ first (walk_message s d)
-message_walk s d = object_walk (is_key s) (slots_of s s) (walk_slots s s) (slots_walk s s) d
+message_walk s d = object_walk (is_key s) (λ e. settling s (slots_of s s e)) (walk_slots s s) (settling_walk s (slots_walk s s)) d
 
 -- ---- the first of a list
 

@@ -3,5 +3,6 @@ pub mod Form
 pub mod Holds
 pub mod Pieces
 pub mod Reads
+pub mod Later
 pub mod Unform
 pub mod Walk

@@ -11,10 +11,10 @@ use Rattle.rt_wire.specs.Fields.{WireValue, Varint, Fixed64, Len, Group, Fixed32
 use Rattle.rt_wire.specs.Placed.{PlacedField, placed_fields}
 use Rattle.feed_values.specs.Schema as schema
 use Rattle.feed_values.specs.Schema.{Schema, Scalar, Presence, Optional, Needed, Held, Value}
-use Rattle.feed_values.specs.Meaning.{is_of_slot}
 use Rattle.feed_values.specs.Views.{truth_number}
 use Rattle.feed_json.specs.declared.json_fault.JsonFault.{JsonFault}
 use Rattle.feed_json.specs.declared.json_fault.JsonFault.TheVariants.{WrongKind, UnknownKey, OutOfRange, MissingKey}
+use Rattle.feed_json.specs.Later.{is_item, has_later, settled}
 use Rattle.feed_json.specs.Faults.{item_key, under, ◌>>=◌, unless, paired}
 
 -- what is of the right kind
@@ -153,16 +153,16 @@ value_of wire d =
 abbrev pub field : ℕ → WireValue → WireField
 field number value = record { number = number; value = value }
 
--- a field that is of no slot of its message
-abbrev pub of_no_slot : Schema → WireField → Result WireField JsonFault
-of_no_slot whole f = in_range (if is_of_slot whole f then None else Some f)
+-- a field that may be an item of its message: it is of no slot, or of a later one
+abbrev pub as_item : Schema → WireField → Result WireField JsonFault
+as_item whole f = in_range (if is_item whole f then Some f else None)
 
 abbrev pub is_item_key : List ℕ → Bool
 is_item_key key = bytes_eq key (codes "number") || bytes_eq key (codes "wire") || bytes_eq key (codes "value")
 
 -- the field at an item's value
 abbrev pub field_of : Schema → ℕ → ℕ → Data → Result WireField JsonFault
-field_of whole number wire d = value_of wire d >>= λ value. of_no_slot whole (field number value)
+field_of whole number wire d = value_of wire d >>= λ value. as_item whole (field number value)
 
 abbrev pub item_of : Schema → Data → Result WireField JsonFault
 item_of whole d =
@@ -192,6 +192,10 @@ names_of (schema.text n name presence rest) = codes name ∷ names_of rest
 names_of (schema.message n name presence m rest) = codes name ∷ names_of rest
 names_of (schema.repeated n name m rest) = codes name ∷ names_of rest
 
+-- a message, whose fields of later slots are moved to them
+abbrev pub settling : (s : Schema) → Result (Value s) JsonFault → Result (Value s) JsonFault
+settling s r = if has_later s then (r >>= λ v. Ok (settled s v)) else r
+
 -- slot by slot, where `whole` is the schema with all slots
 abbrev pub slots_of : Schema → (s : Schema) → Data → Result (Value s) JsonFault
 slots_of whole schema.end d = array_at (codes "unknown") (unknown_of whole) (get (codes "unknown") d)
@@ -200,10 +204,10 @@ slots_of whole (schema.scalar n name presence t rest) d =
 slots_of whole (schema.text n name presence rest) d =
     paired (slot_at presence (codes name) text_of (get (codes name) d)) (slots_of whole rest d)
 slots_of whole (schema.message n name presence m rest) d =
-    paired (slot_at presence (codes name) (object_of (is_key m) (slots_of m m)) (get (codes name) d)) (slots_of whole rest d)
+    paired (slot_at presence (codes name) (object_of (is_key m) (λ e. settling m (slots_of m m e))) (get (codes name) d)) (slots_of whole rest d)
 slots_of whole (schema.repeated n name m rest) d =
-    paired (array_at (codes name) (object_of (is_key m) (slots_of m m)) (get (codes name) d)) (slots_of whole rest d)
+    paired (array_at (codes name) (object_of (is_key m) (λ e. settling m (slots_of m m e))) (get (codes name) d)) (slots_of whole rest d)
 
 -- the value of a tree, or its first fault
 abbrev pub unform : (s : Schema) → Data → Result (Value s) JsonFault
-unform s d = object_of (is_key s) (slots_of s s) d
+unform s d = object_of (is_key s) (λ e. settling s (slots_of s s e)) d

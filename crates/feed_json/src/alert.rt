@@ -5,7 +5,7 @@ use crate::message::{Form, optional_message, repeated};
 use crate::reading::{optional_enum, optional_i32, optional_text, optional_u64};
 use crate::unknown::{put_unknown, unknown_fields};
 use crate::writing::{put_i32, put_optional, put_optional_text, put_repeated, put_u32, put_u64};
-use feed_values::{Alert, EntitySelector, TimeRange};
+use feed_values::{Alert, EntitySelector, Slots, TimeRange, Unknown};
 use serde_json::{Map, Value};
 use std::alloc::{AllocError, Global};
 
@@ -36,6 +36,10 @@ impl Form for Alert {
         })
     }
 
+    fn is_item(field: &Unknown) -> bool {
+        !Alert::takes(field)
+    }
+
     fn put(&self, alloc: Global, members: &mut Map<String, Value>) -> Result<(), AllocError> {
         put_repeated(alloc, members, "active_period", &self.active_period)?;
         put_repeated(alloc, members, "informed_entity", &self.informed_entity)?;
@@ -59,6 +63,10 @@ impl Form for TimeRange {
             end: optional_u64(alloc, value, "end")?,
             unknown: unknown_fields::<TimeRange>(alloc, value)?,
         })
+    }
+
+    fn is_item(field: &Unknown) -> bool {
+        !TimeRange::takes(field)
     }
 
     fn put(&self, alloc: Global, members: &mut Map<String, Value>) -> Result<(), AllocError> {
@@ -89,6 +97,10 @@ impl Form for EntitySelector {
             stop_id: optional_text(alloc, value, "stop_id")?,
             unknown: unknown_fields::<EntitySelector>(alloc, value)?,
         })
+    }
+
+    fn is_item(field: &Unknown) -> bool {
+        !EntitySelector::takes(field)
     }
 
     fn put(&self, alloc: Global, members: &mut Map<String, Value>) -> Result<(), AllocError> {

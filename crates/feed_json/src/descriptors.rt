@@ -1,13 +1,84 @@
 //! What names a trip or a vehicle, in JSON.
 
+ghost use Rattle.std.specs.Prelude.{◌≡◌, map, [], IfOk};
+ghost use Rattle.std.specs.List.{AllByRecursion};
+ghost use Rattle.serde_json.specs.View.{view};
+ghost use Rattle.feed_values.specs.Schema as schema;
+ghost use Rattle.feed_values.specs.Messages.{trip_descriptor};
+ghost use Rattle.feed_values.specs.Views.{trip_descriptor_value, unknown_value, unknown_field};
+ghost use Rattle.feed_json.specs.Holds.{Holds};
+ghost use Rattle.feed_json.specs.Later.{IsItem, is_more, with_unknown};
+ghost use Rattle.feed_json.specs.Reads.{Reads};
+ghost use Rattle.feed_json.specs.Unform.{slots_of};
+
 use crate::json_fault::JsonFault;
+use crate::later::{Later, is_item_of, settle};
 use crate::message::Form;
 use crate::reading::{optional_enum_or, optional_text, optional_u32};
-use crate::unknown::{put_unknown, unknown_fields};
+use crate::unknown::{items_at, put_unknown, unknown_fields};
 use crate::writing::{put_optional_text, put_u32};
-use feed_values::{TripDescriptor, VehicleDescriptor};
+use feed_values::{Items, Slots, TripDescriptor, Unknown, UnknownValue, VehicleDescriptor};
 use serde_json::{Map, Value};
 use std::alloc::{AllocError, Global};
+use std::mem;
+
+// (GTFS Realtime Reference 2.0, "ScheduleRelationship" of a trip.)
+const DUPLICATED: u32 = 6;
+
+/// Whether a value is the number of DUPLICATED, by its low 32 bits.
+fn is_duplicated(value: &UnknownValue) -> bool
+    ensures { result ≡ is_more (schema.EnumOr 0 3 6) (unknown_value value.now) }
+{
+    match value {
+        UnknownValue::Varint(number) => *number % (1 << 32) == u64::from(DUPLICATED),
+        _ => false,
+    }
+}
+
+/// The trip as its keys say, with all items of `unknown`.
+fn trip_slots(alloc: Global, value: &Value) -> Result<TripDescriptor, JsonFault>
+    ensures read { Reads trip_descriptor_value (slots_of trip_descriptor trip_descriptor (view value.now)) result }
+    ensures holds { IfOk result (λ message. Holds trip_descriptor trip_descriptor (with_unknown trip_descriptor [] (trip_descriptor_value message))) }
+    ensures items { IfOk result (λ message. AllByRecursion (IsItem trip_descriptor) (map unknown_field message.unknown)) }
+{
+    Ok(TripDescriptor {
+        trip_id: optional_text(alloc, value, "trip_id")?,
+        start_time: optional_text(alloc, value, "start_time")?,
+        start_date: optional_text(alloc, value, "start_date")?,
+        schedule_relationship: optional_enum_or(
+            alloc,
+            value,
+            "schedule_relationship",
+            0,
+            3,
+            6,
+        )?,
+        route_id: optional_text(alloc, value, "route_id")?,
+        direction_id: optional_u32(alloc, value, "direction_id")?,
+        unknown: items_at::<TripDescriptor>(alloc, value)?,
+    })
+}
+
+impl Later for TripDescriptor {
+    fn is_moved(field: &Unknown) -> bool {
+        field.number == 4 && is_duplicated(&field.value)
+    }
+
+    fn may_move(_field: &Unknown) -> bool {
+        true
+    }
+
+    fn take(&mut self, _alloc: Global, field: &Unknown) -> Result<(), AllocError> {
+        if field.number == 4 && is_duplicated(&field.value) {
+            self.schedule_relationship = Some(DUPLICATED);
+        }
+        Ok(())
+    }
+
+    fn replace_unknown(&mut self, unknown: Items<Unknown>) -> Items<Unknown> {
+        mem::replace(&mut self.unknown, unknown)
+    }
+}
 
 impl Form for TripDescriptor {
     fn names() -> &'static [&'static str] {
@@ -23,22 +94,12 @@ impl Form for TripDescriptor {
     }
 
     fn read(alloc: Global, value: &Value) -> Result<TripDescriptor, JsonFault> {
-        Ok(TripDescriptor {
-            trip_id: optional_text(alloc, value, "trip_id")?,
-            start_time: optional_text(alloc, value, "start_time")?,
-            start_date: optional_text(alloc, value, "start_date")?,
-            schedule_relationship: optional_enum_or(
-                alloc,
-                value,
-                "schedule_relationship",
-                0,
-                3,
-                6,
-            )?,
-            route_id: optional_text(alloc, value, "route_id")?,
-            direction_id: optional_u32(alloc, value, "direction_id")?,
-            unknown: unknown_fields::<TripDescriptor>(alloc, value)?,
-        })
+        let trip = trip_slots(alloc, value)?;
+        Ok(settle(alloc, trip)?)
+    }
+
+    fn is_item(field: &Unknown) -> bool {
+        is_item_of::<TripDescriptor>(field)
     }
 
     fn put(&self, alloc: Global, members: &mut Map<String, Value>) -> Result<(), AllocError> {
@@ -69,6 +130,10 @@ impl Form for VehicleDescriptor {
             license_plate: optional_text(alloc, value, "license_plate")?,
             unknown: unknown_fields::<VehicleDescriptor>(alloc, value)?,
         })
+    }
+
+    fn is_item(field: &Unknown) -> bool {
+        !VehicleDescriptor::takes(field)
     }
 
     fn put(&self, alloc: Global, members: &mut Map<String, Value>) -> Result<(), AllocError> {

@@ -35,6 +35,7 @@ mod alert;
 mod descriptors;
 mod feed;
 mod json_fault;
+mod later;
 mod laws;
 mod message;
 mod paths;
@@ -50,6 +51,6 @@ mod vehicle_position;
 mod writing;
 
 pub use json_fault::JsonFault;
-pub use laws::{fault_is_first, form_reads_back, no_fault_is_found};
+pub use laws::{fault_is_first, form_reads_back, moved_as_taken, no_fault_is_found};
 pub use snapshot::{from_json, to_json};
 pub use text::to_text;

@@ -1,5 +1,5 @@
 //! Three messages that may be there, and the unknown fields behind them: the end of an entity.
-ghost use Rattle.std.specs.Prelude.{◌≡◌, map, codes, IfOk, IfSome};
+ghost use Rattle.std.specs.Prelude.{◌≡◌, false, map, codes, IfOk, IfSome};
 ghost use Rattle.std.specs.Option.{option_map};
 ghost use Rattle.std.specs.List.{AllByRecursion};
 ghost use Rattle.serde_json.specs.Find.{get};
@@ -8,13 +8,14 @@ ghost use Rattle.feed_values.specs.Views.{unknown_field};
 ghost use Rattle.feed_values.specs.WellFormed.{IsUnknown};
 ghost use Rattle.feed_json.specs.Faults.{paired};
 ghost use Rattle.feed_json.specs.Holds.{Holds};
+ghost use Rattle.feed_json.specs.Later.{has_later};
 ghost use Rattle.feed_json.specs.Reads.{Reads};
 ghost use Rattle.feed_json.specs.Unform.{unform, unknown_of, optional_at, array_at};
 
 use crate::json_fault::JsonFault;
 use crate::message::{Form, optional_message};
 use crate::unknown::unknown_fields;
-use feed_values::{Items, Slots, Unknown};
+use feed_values::{Items, Unknown};
 use serde_json::Value;
 use std::alloc::Global;
 
@@ -31,13 +32,14 @@ pub struct Three<A, B, C> {
 }
 
 /// The messages at three keys, and the unknown fields of a message of kind `M`.
-pub fn three_from<A: Form, B: Form, C: Form, M: Slots>(
+pub fn three_from<A: Form, B: Form, C: Form, M: Form>(
     alloc: Global,
     value: &Value,
     first: &str,
     second: &str,
     third: &str,
 ) -> Result<Three<A, B, C>, JsonFault>
+    requires { has_later M.schema ≡ false }
     ensures read { Reads (λ three. (option_map A.value three.first, (option_map B.value three.second, (option_map C.value three.third, map unknown_field three.unknown))))
         (paired (optional_at first.now (unform A.schema) (get first.now (view value.now)))
         (paired (optional_at second.now (unform B.schema) (get second.now (view value.now)))

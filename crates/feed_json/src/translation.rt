@@ -5,7 +5,7 @@ use crate::message::{Form, repeated};
 use crate::reading::{needed_text, optional_text};
 use crate::unknown::{put_unknown, unknown_fields};
 use crate::writing::{put_optional_text, put_repeated, put_text};
-use feed_values::{TranslatedString, Translation};
+use feed_values::{Slots, TranslatedString, Translation, Unknown};
 use serde_json::{Map, Value};
 use std::alloc::{AllocError, Global};
 
@@ -19,6 +19,10 @@ impl Form for TranslatedString {
             translation: repeated(alloc, value, "translation")?,
             unknown: unknown_fields::<TranslatedString>(alloc, value)?,
         })
+    }
+
+    fn is_item(field: &Unknown) -> bool {
+        !TranslatedString::takes(field)
     }
 
     fn put(&self, alloc: Global, members: &mut Map<String, Value>) -> Result<(), AllocError> {
@@ -38,6 +42,10 @@ impl Form for Translation {
             language: optional_text(alloc, value, "language")?,
             unknown: unknown_fields::<Translation>(alloc, value)?,
         })
+    }
+
+    fn is_item(field: &Unknown) -> bool {
+        !Translation::takes(field)
     }
 
     fn put(&self, alloc: Global, members: &mut Map<String, Value>) -> Result<(), AllocError> {

@@ -1,17 +1,82 @@
 //! Trip updates and what they hold, in JSON.
 
+ghost use Rattle.std.specs.Prelude.{◌≡◌, map, [], IfOk};
+ghost use Rattle.std.specs.List.{AllByRecursion};
+ghost use Rattle.serde_json.specs.View.{view};
+ghost use Rattle.feed_values.specs.Messages.{trip_update, stop_time_update};
+ghost use Rattle.feed_values.specs.Views.{trip_update_value, stop_time_update_value, unknown_field};
+ghost use Rattle.feed_json.specs.Holds.{Holds};
+ghost use Rattle.feed_json.specs.Later.{IsItem, with_unknown};
+ghost use Rattle.feed_json.specs.Reads.{Reads};
+ghost use Rattle.feed_json.specs.Unform.{slots_of};
+
 use crate::json_fault::JsonFault;
+use crate::later::{Later, is_item_of, settle};
 use crate::message::{Form, needed_message, optional_message, repeated};
 use crate::reading::{
     optional_enum, optional_i32, optional_i64, optional_text, optional_u32, optional_u64,
 };
-use crate::unknown::{put_unknown, unknown_fields};
+use crate::properties::{with_stop_time_properties, with_trip_properties};
+use crate::unknown::{items_at, put_unknown, unknown_fields};
 use crate::writing::{
     put_i32, put_i64, put_message, put_optional, put_optional_text, put_repeated, put_u32, put_u64,
 };
-use feed_values::{StopTimeEvent, StopTimeUpdate, TripUpdate};
+use feed_codec::{check_stop_time_properties, check_trip_properties, decode_stop_time_properties, decode_trip_properties};
+use feed_values::{Items, Slots, StopTimeEvent, StopTimeUpdate, TripUpdate, Unknown, UnknownValue};
 use serde_json::{Map, Value};
 use std::alloc::{AllocError, Global};
+use std::mem;
+
+/// The update of a trip as its keys say, with all items of `unknown`.
+fn update_slots(alloc: Global, value: &Value) -> Result<TripUpdate, JsonFault>
+    ensures read { Reads trip_update_value (slots_of trip_update trip_update (view value.now)) result }
+    ensures holds { IfOk result (λ message. Holds trip_update trip_update (with_unknown trip_update [] (trip_update_value message))) }
+    ensures items { IfOk result (λ message. AllByRecursion (IsItem trip_update) (map unknown_field message.unknown)) }
+{
+    Ok(TripUpdate {
+        trip: needed_message(alloc, value, "trip")?,
+        stop_time_update: repeated(alloc, value, "stop_time_update")?,
+        vehicle: optional_message(alloc, value, "vehicle")?,
+        timestamp: optional_u64(alloc, value, "timestamp")?,
+        delay: optional_i32(alloc, value, "delay")?,
+        trip_properties: optional_message(alloc, value, "trip_properties")?,
+        unknown: items_at::<TripUpdate>(alloc, value)?,
+    })
+}
+
+impl Later for TripUpdate {
+    fn is_moved(field: &Unknown) -> bool {
+        field.number == 6 && matches!(field.value, UnknownValue::Len(_))
+    }
+
+    fn may_move(field: &Unknown) -> bool {
+        match &field.value {
+            UnknownValue::Len(payload) => {
+                field.number != 6 || check_trip_properties(payload.as_slice()).is_ok()
+            }
+            _ => true,
+        }
+    }
+
+    fn take(&mut self, alloc: Global, field: &Unknown) -> Result<(), AllocError> {
+        if !TripUpdate::is_moved(field) {
+            return Ok(());
+        }
+        let UnknownValue::Len(payload) = &field.value else {
+            return Ok(());
+        };
+        let Ok(given) = decode_trip_properties(alloc, payload.as_slice()) else {
+            return Err(AllocError);
+        };
+        let held = self.trip_properties.take();
+        self.trip_properties = Some(with_trip_properties(alloc, held, given)?);
+        Ok(())
+    }
+
+    fn replace_unknown(&mut self, unknown: Items<Unknown>) -> Items<Unknown> {
+        mem::replace(&mut self.unknown, unknown)
+    }
+}
 
 impl Form for TripUpdate {
     fn names() -> &'static [&'static str] {
@@ -27,15 +92,12 @@ impl Form for TripUpdate {
     }
 
     fn read(alloc: Global, value: &Value) -> Result<TripUpdate, JsonFault> {
-        Ok(TripUpdate {
-            trip: needed_message(alloc, value, "trip")?,
-            stop_time_update: repeated(alloc, value, "stop_time_update")?,
-            vehicle: optional_message(alloc, value, "vehicle")?,
-            timestamp: optional_u64(alloc, value, "timestamp")?,
-            delay: optional_i32(alloc, value, "delay")?,
-            trip_properties: optional_message(alloc, value, "trip_properties")?,
-            unknown: unknown_fields::<TripUpdate>(alloc, value)?,
-        })
+        let update = update_slots(alloc, value)?;
+        Ok(settle(alloc, update)?)
+    }
+
+    fn is_item(field: &Unknown) -> bool {
+        is_item_of::<TripUpdate>(field)
     }
 
     fn put(&self, alloc: Global, members: &mut Map<String, Value>) -> Result<(), AllocError> {
@@ -46,6 +108,57 @@ impl Form for TripUpdate {
         put_i32(alloc, members, "delay", self.delay)?;
         put_optional(alloc, members, "trip_properties", &self.trip_properties)?;
         put_unknown(alloc, members, &self.unknown)
+    }
+}
+
+/// The update of a stop as its keys say, with all items of `unknown`.
+fn stop_slots(alloc: Global, value: &Value) -> Result<StopTimeUpdate, JsonFault>
+    ensures read { Reads stop_time_update_value (slots_of stop_time_update stop_time_update (view value.now)) result }
+    ensures holds { IfOk result (λ message. Holds stop_time_update stop_time_update (with_unknown stop_time_update [] (stop_time_update_value message))) }
+    ensures items { IfOk result (λ message. AllByRecursion (IsItem stop_time_update) (map unknown_field message.unknown)) }
+{
+    Ok(StopTimeUpdate {
+        stop_sequence: optional_u32(alloc, value, "stop_sequence")?,
+        arrival: optional_message(alloc, value, "arrival")?,
+        departure: optional_message(alloc, value, "departure")?,
+        stop_id: optional_text(alloc, value, "stop_id")?,
+        schedule_relationship: optional_enum(alloc, value, "schedule_relationship", 0, 2)?,
+        stop_time_properties: optional_message(alloc, value, "stop_time_properties")?,
+        unknown: items_at::<StopTimeUpdate>(alloc, value)?,
+    })
+}
+
+impl Later for StopTimeUpdate {
+    fn is_moved(field: &Unknown) -> bool {
+        field.number == 6 && matches!(field.value, UnknownValue::Len(_))
+    }
+
+    fn may_move(field: &Unknown) -> bool {
+        match &field.value {
+            UnknownValue::Len(payload) => {
+                field.number != 6 || check_stop_time_properties(payload.as_slice()).is_ok()
+            }
+            _ => true,
+        }
+    }
+
+    fn take(&mut self, alloc: Global, field: &Unknown) -> Result<(), AllocError> {
+        if !StopTimeUpdate::is_moved(field) {
+            return Ok(());
+        }
+        let UnknownValue::Len(payload) = &field.value else {
+            return Ok(());
+        };
+        let Ok(given) = decode_stop_time_properties(alloc, payload.as_slice()) else {
+            return Err(AllocError);
+        };
+        let held = self.stop_time_properties.take();
+        self.stop_time_properties = Some(with_stop_time_properties(alloc, held, given)?);
+        Ok(())
+    }
+
+    fn replace_unknown(&mut self, unknown: Items<Unknown>) -> Items<Unknown> {
+        mem::replace(&mut self.unknown, unknown)
     }
 }
 
@@ -63,15 +176,12 @@ impl Form for StopTimeUpdate {
     }
 
     fn read(alloc: Global, value: &Value) -> Result<StopTimeUpdate, JsonFault> {
-        Ok(StopTimeUpdate {
-            stop_sequence: optional_u32(alloc, value, "stop_sequence")?,
-            arrival: optional_message(alloc, value, "arrival")?,
-            departure: optional_message(alloc, value, "departure")?,
-            stop_id: optional_text(alloc, value, "stop_id")?,
-            schedule_relationship: optional_enum(alloc, value, "schedule_relationship", 0, 2)?,
-            stop_time_properties: optional_message(alloc, value, "stop_time_properties")?,
-            unknown: unknown_fields::<StopTimeUpdate>(alloc, value)?,
-        })
+        let update = stop_slots(alloc, value)?;
+        Ok(settle(alloc, update)?)
+    }
+
+    fn is_item(field: &Unknown) -> bool {
+        is_item_of::<StopTimeUpdate>(field)
     }
 
     fn put(&self, alloc: Global, members: &mut Map<String, Value>) -> Result<(), AllocError> {
@@ -107,6 +217,10 @@ impl Form for StopTimeEvent {
             uncertainty: optional_i32(alloc, value, "uncertainty")?,
             unknown: unknown_fields::<StopTimeEvent>(alloc, value)?,
         })
+    }
+
+    fn is_item(field: &Unknown) -> bool {
+        !StopTimeEvent::takes(field)
     }
 
     fn put(&self, alloc: Global, members: &mut Map<String, Value>) -> Result<(), AllocError> {

@@ -3,6 +3,7 @@
 ghost use Rattle.std.specs.Prelude.{◌≡◌, ◌≤◌, map, codes, false, OnOk, IfOk, IsTrue};
 ghost use Rattle.std.specs.Option.{option_map};
 ghost use Rattle.std.specs.List.{AllByRecursion};
+ghost use Rattle.std.specs.Str.{is_utf8};
 ghost use Rattle.hex.specs.Hex.{encode_lower};
 ghost use Rattle.rt_wire.specs.Fields.{Group, IsBytes, wire_type};
 ghost use Rattle.rt_wire.specs.Writing.{GroupIsWhole};
@@ -14,14 +15,16 @@ ghost use Rattle.serde_json.specs.Written.{has_float};
 ghost use Rattle.feed_values.specs.Views.{unknown_field, unknown_value};
 ghost use Rattle.feed_json.specs.Faults.{item_key, under};
 ghost use Rattle.feed_json.specs.Form.{unknown_form, wire_form, with_member, array_form};
+ghost use Rattle.feed_json.specs.Later.{IsItem, has_later};
 ghost use Rattle.feed_json.specs.Reads.{Reads};
 ghost use Rattle.feed_json.specs.Unform.{bytes_of, group_of, is_whole, wire_of, value_of, field_of, item_of, unknown_of, is_item_key, first_unknown, needed_at, array_at, each_of, natural_of};
 
 use crate::json_fault::JsonFault;
+use crate::message::Form;
 use crate::paths::{out_of_range, text_of, under, wrong_kind};
 use crate::reading::{natural_from, u32_from};
 use crate::writing::put_array;
-use feed_values::{Items, Raw, Slots, Unknown, UnknownValue};
+use feed_values::{Items, Raw, Unknown, UnknownValue};
 use hex::FromHexError;
 use rt_wire::group_depth;
 use serde_json::{Map, Value, json};
@@ -74,6 +77,13 @@ fn group_from(alloc: Global, value: &Value) -> Result<UnknownValue, JsonFault>
     }
 }
 
+/// Whether bytes are a text.
+pub fn is_text(bytes: &[u8]) -> bool
+    ensures { result ≡ is_utf8 bytes.now }
+{
+    str::from_utf8(bytes).is_ok()
+}
+
 /// A wire type: 0 a varint, 1 eight bytes, 2 bytes with a length, 3 a group, 5 four bytes.
 fn wire_from(alloc: Global, value: &Value) -> Result<u32, JsonFault>
     ensures { result ≡ wire_of (view value.now) }
@@ -99,8 +109,8 @@ fn value_from(alloc: Global, wire: u32, value: &Value) -> Result<UnknownValue, J
     }
 }
 
-/// A field that is of no slot of a kind of message.
-fn field_from<M: Slots>(
+/// A field that may be an item of a kind of message.
+fn field_from<M: Form>(
     alloc: Global,
     number: u32,
     wire: u32,
@@ -109,13 +119,13 @@ fn field_from<M: Slots>(
     requires some { 1 ≤ number }
     requires small { number ≤ 536870911 }
     ensures read { Reads unknown_field (field_of M.schema number wire (view value.now)) result }
-    ensures fits { IfOk result (λ field. IsUnknown M.schema (unknown_field field)) }
+    ensures fits { IfOk result (λ field. IsItem M.schema (unknown_field field)) }
 {
     let field = Unknown {
         number,
         value: value_from(alloc, wire, value)?,
     };
-    if M::takes(&field) {
+    if !M::is_item(&field) {
         return Err(out_of_range(alloc));
     }
     Ok(field)
@@ -143,7 +153,7 @@ fn wire_at(alloc: Global, value: &Value) -> Result<u32, JsonFault>
 }
 
 /// The field of an item, by its number, its wire type and what stands at `value`.
-fn value_at<M: Slots>(
+fn value_at<M: Form>(
     alloc: Global,
     number: u32,
     wire: u32,
@@ -152,7 +162,7 @@ fn value_at<M: Slots>(
     requires some { 1 ≤ number }
     requires small { number ≤ 536870911 }
     ensures read { Reads unknown_field (needed_at (codes "value") (field_of M.schema number wire) (get (codes "value") (view value.now))) result }
-    ensures fits { IfOk result (λ field. IsUnknown M.schema (unknown_field field)) }
+    ensures fits { IfOk result (λ field. IsItem M.schema (unknown_field field)) }
 {
     match value.get("value") {
         Some(held) => under(alloc, "value", field_from::<M>(alloc, number, wire, held)),
@@ -174,9 +184,9 @@ fn unknown_key(members: &Map<String, Value>) -> Option<&str>
 }
 
 /// The unknown field that a tree says. Every other key than the three is unknown, `unknown` among them.
-fn unknown_from<M: Slots>(alloc: Global, value: &Value) -> Result<Unknown, JsonFault>
+fn unknown_from<M: Form>(alloc: Global, value: &Value) -> Result<Unknown, JsonFault>
     ensures read { Reads unknown_field (unknown_of M.schema (view value.now)) result }
-    ensures fits { IfOk result (λ field. IsUnknown M.schema (unknown_field field)) }
+    ensures fits { IfOk result (λ field. IsItem M.schema (unknown_field field)) }
 {
     let Some(members) = value.as_object() else {
         return Err(wrong_kind(alloc));
@@ -190,9 +200,9 @@ fn unknown_from<M: Slots>(alloc: Global, value: &Value) -> Result<Unknown, JsonF
 }
 
 /// An item of `unknown`. Its place is made only where it has a fault.
-fn item_from<M: Slots>(alloc: Global, value: &Value, i: usize) -> Result<Unknown, JsonFault>
+fn item_from<M: Form>(alloc: Global, value: &Value, i: usize) -> Result<Unknown, JsonFault>
     ensures read { Reads unknown_field (under (item_key (codes "unknown") i) (unknown_of M.schema (view value.now))) result }
-    ensures fits { IfOk result (λ field. IsUnknown M.schema (unknown_field field)) }
+    ensures fits { IfOk result (λ field. IsItem M.schema (unknown_field field)) }
 {
     match unknown_from::<M>(alloc, value) {
         Ok(field) => Ok(field),
@@ -205,9 +215,9 @@ fn item_from<M: Slots>(alloc: Global, value: &Value, i: usize) -> Result<Unknown
 
 /// The items of `unknown`, in their order.
 #[tactic(auto, using(crate::proofs::Lists::all_push))]
-fn items_from<M: Slots>(alloc: Global, items: &[Value]) -> Result<Items<Unknown>, JsonFault>
+fn items_from<M: Form>(alloc: Global, items: &[Value]) -> Result<Items<Unknown>, JsonFault>
     ensures read { Reads (map unknown_field) (each_of (codes "unknown") (unknown_of M.schema) 0 (items_view items.now)) result }
-    ensures fits { IfOk result (λ list. AllByRecursion (IsUnknown M.schema) (map unknown_field list)) }
+    ensures fits { IfOk result (λ list. AllByRecursion (IsItem M.schema) (map unknown_field list)) }
 {
     let mut list = Items::new(alloc);
     for (i, item) in items.iter().enumerate() {
@@ -218,10 +228,10 @@ fn items_from<M: Slots>(alloc: Global, items: &[Value]) -> Result<Items<Unknown>
     Ok(list)
 }
 
-/// The unknown fields of a message of kind `M`.
-pub fn unknown_fields<M: Slots>(alloc: Global, value: &Value) -> Result<Items<Unknown>, JsonFault>
+/// The items of `unknown` of a message of kind `M`.
+pub fn items_at<M: Form>(alloc: Global, value: &Value) -> Result<Items<Unknown>, JsonFault>
     ensures read { Reads (map unknown_field) (array_at (codes "unknown") (unknown_of M.schema) (get (codes "unknown") (view value.now))) result }
-    ensures fits { IfOk result (λ list. AllByRecursion (IsUnknown M.schema) (map unknown_field list)) }
+    ensures fits { IfOk result (λ list. AllByRecursion (IsItem M.schema) (map unknown_field list)) }
 {
     let Some(held) = value.get("unknown") else {
         return Ok(Items::new(alloc));
@@ -230,6 +240,16 @@ pub fn unknown_fields<M: Slots>(alloc: Global, value: &Value) -> Result<Items<Un
         Some(items) => items_from::<M>(alloc, items.as_slice()),
         None => Err(JsonFault::WrongKind(text_of(alloc, "unknown")?)),
     }
+}
+
+/// The unknown fields of a message of kind `M`, which has no slots that the reference got later.
+#[tactic(auto, using(crate::proofs::Settled::all_unknown))]
+pub fn unknown_fields<M: Form>(alloc: Global, value: &Value) -> Result<Items<Unknown>, JsonFault>
+    requires { has_later M.schema ≡ false }
+    ensures read { Reads (map unknown_field) (array_at (codes "unknown") (unknown_of M.schema) (get (codes "unknown") (view value.now))) result }
+    ensures fits { IfOk result (λ list. AllByRecursion (IsUnknown M.schema) (map unknown_field list)) }
+{
+    items_at::<M>(alloc, value)
 }
 
 fn wire_type(value: &UnknownValue) -> u32

@@ -16,7 +16,7 @@ use crate::reading::{
 };
 use crate::unknown::{put_unknown, unknown_fields};
 use crate::writing::{put_needed_u32, put_optional, put_optional_text, put_u32, put_u64};
-use feed_values::{Items, Position, VehiclePosition};
+use feed_values::{Items, Position, Slots, Unknown, VehiclePosition};
 use serde_json::{Map, Value};
 use std::alloc::{AllocError, Global};
 
@@ -76,6 +76,10 @@ impl Form for VehiclePosition {
         Ok(Box::into_inner(message))
     }
 
+    fn is_item(field: &Unknown) -> bool {
+        !VehiclePosition::takes(field)
+    }
+
     fn put(&self, alloc: Global, members: &mut Map<String, Value>) -> Result<(), AllocError> {
         put_optional(alloc, members, "trip", &self.trip)?;
         put_optional(alloc, members, "position", &self.position)?;
@@ -116,6 +120,10 @@ impl Form for Position {
             speed: optional_bits32(alloc, value, "speed")?,
             unknown: unknown_fields::<Position>(alloc, value)?,
         })
+    }
+
+    fn is_item(field: &Unknown) -> bool {
+        !Position::takes(field)
     }
 
     fn put(&self, alloc: Global, members: &mut Map<String, Value>) -> Result<(), AllocError> {
