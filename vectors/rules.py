@@ -96,10 +96,11 @@ class Table:
 
 
 # ---- cells
-SLOTS = """1 header.gtfs_realtime_version;2 header.incrementality;3 header.timestamp;10 id;11 is_deleted;20 trip_update;21 trip_update.trip.trip_id
+SLOTS = """1 header.gtfs_realtime_version;2 header.incrementality;3 header.timestamp;4 header.feed_version;10 id;11 is_deleted;20 trip_update;21 trip_update.trip.trip_id
 22 trip_update.trip.start_time;23 trip_update.trip.start_date;24 trip_update.trip.schedule_relationship;25 trip_update.trip.route_id
 26 trip_update.trip.direction_id;27 trip_update.stop_time_update;28 trip_update.vehicle.id;29 trip_update.timestamp;30 trip_update.delay;31 U;32 U.stop_sequence
-33 U.stop_id;34 U.schedule_relationship;35 U.arrival;36 U.arrival.delay;37 U.arrival.time;38 U.departure;39 U.departure.delay;40 U.departure.time;50 vehicle
+33 U.stop_id;34 U.schedule_relationship;35 U.arrival;36 U.arrival.delay;37 U.arrival.time;38 U.departure;39 U.departure.delay;40 U.departure.time;41 U.stop_time_properties.assigned_stop_id
+42 trip_update.trip_properties.trip_id;43 trip_update.trip_properties.start_date;44 trip_update.trip_properties.start_time;50 vehicle
 51 vehicle.trip;52 vehicle.trip.trip_id;53 vehicle.trip.start_time;54 vehicle.trip.start_date;55 vehicle.trip.schedule_relationship;56 vehicle.trip.route_id
 57 vehicle.trip.direction_id;58 vehicle.vehicle.id;59 vehicle.timestamp;60 vehicle.stop_id;70 alert;71 P.start;72 P.end;73 alert.informed_entity;74 N;75 N.agency_id
 76 N.route_id;77 N.route_type;78 N.trip;79 N.trip.trip_id;80 N.trip.start_time;81 N.trip.start_date;82 N.trip.schedule_relationship;83 N.trip.route_id
@@ -235,11 +236,12 @@ rule("E006", under(D2, "trip_id"), lambda j, p: with_(j, [j.c(p), j.c(beside(p, 
      lambda p, t, d, x: x == 0 and (t is None or d is None))
 rule("E009", [SEQ], lambda j, p: with_(j, [j.c("U"), j.c(TRIP), j.c(p)], "visits_twice", j.c(TRIP)["value"]), lambda u, t, p, v: given(u) and p is None and v == 1)
 kind = lambda j, p: with_(j, [j.c(p)], "stop_kind", j.c(p)["value"])
-rule("E011", ["U.stop_id", "vehicle.stop_id", "N.stop_id"], kind, lambda p, k: k is None)
+ASSIGNED = "U.stop_time_properties.assigned_stop_id"
+rule("E011", ["U.stop_id", ASSIGNED, "vehicle.stop_id", "N.stop_id"], kind, lambda p, k: k is None)
 rule("E012", stamps, lambda j, p: [j.c(p), j.head(STAMP)], lambda p, h: given(p, h) and p > h)
 exact = lambda j, p: with_(j, [j.c(beside(p, "trip_id")), j.c(p)], "trip_exact", j.c(beside(p, "trip_id"))["value"])
 rule("E013", under(D2, "schedule_relationship"), exact, lambda t, p, x: x == 0 and given(p) and p != 2)
-rule("E015", ["U.stop_id", "vehicle.stop_id"], kind, lambda p, k: given(k) and k != 0)
+rule("E015", ["U.stop_id", ASSIGNED, "vehicle.stop_id"], kind, lambda p, k: given(k) and k != 0)
 rule("E016", under(D3, "trip_id"), known, lambda t, r, k: k == 1 and r == 1)
 rule("E017", [], None, None, head=head(STAMP, lambda j, p: [j.before(STAMP), j.head(STAMP), fact("entities_changed", [], 0)]), head_test=lambda v: given(v[0], v[1]) and v[0] == v[1] and v[2] == 1)
 rule("E018", [], None, None, head=head(STAMP, lambda j, p: [j.before(STAMP), j.head(STAMP)]), head_test=lambda v: given(v[0], v[1]) and v[1] < v[0])
@@ -247,8 +249,8 @@ def grid(j, p):
     facts = exact(j, p)
     return None if facts is None else with_(j, facts, "on_grid", facts[0]["value"], facts[1]["value"])
 rule("E019", under(D2, "start_time"), grid, lambda t, p, x, g: x == 1 and seconds(p) is not None and g == 0)
-rule("E020", under(D3, "start_time"), lambda j, p: [j.c(p)], lambda p: given(p) and not re.fullmatch("[0-9]{2,3}:[0-5][0-9]:[0-5][0-9]", p))
-rule("E021", under(D3, "start_date"), lambda j, p: [j.c(p)], lambda p: given(p) and not is_date(p))
+rule("E020", under(D3, "start_time") + ["trip_update.trip_properties.start_time"], lambda j, p: [j.c(p)], lambda p: given(p) and not re.fullmatch("[0-9]{2,3}:[0-5][0-9]:[0-5][0-9]", p))
+rule("E021", under(D3, "start_date") + ["trip_update.trip_properties.start_date"], lambda j, p: [j.c(p)], lambda p: given(p) and not is_date(p))
 def late(a, b, c, d):
     last, first = b if b is not None else a, c if c is not None else d
     return given(last, first) and first <= last
@@ -348,7 +350,7 @@ def descriptor(draw):
     return kept(trip_id=some(draw, 0.85, lambda: draw.choice(["T1", "T2", "F1", "L1", "G1", "X9", "é"])),
                 start_time=some(draw, 0.4, lambda: draw.choice(["08:00:00", "8:00:00", "08:10:00", "08:15:00", "24:50:00", "09:00:00", "09:10:00", "10:15:00", "08:61:00", "", "007:00:00"])),
                 start_date=some(draw, 0.4, lambda: draw.choice(["20231114", "20230230", "20240229", "2023111", "99991231", "x"])),
-                schedule_relationship=some(draw, 0.7, lambda: draw.randrange(4)), route_id=some(draw, 0.4, lambda: draw.choice(["R1", "R2", "R9"])),
+                schedule_relationship=some(draw, 0.7, lambda: draw.choice([0, 1, 2, 3, 6])), route_id=some(draw, 0.4, lambda: draw.choice(["R1", "R2", "R9"])),
                 direction_id=some(draw, 0.4, lambda: draw.randrange(3)))
 
 
@@ -358,7 +360,8 @@ def stop_event(draw):
 
 def update(draw):
     return kept(stop_sequence=some(draw, 0.7, lambda: draw.choice([1, 2, 3, 5, 7, 9, 4294967295])), stop_id=some(draw, 0.5, lambda: draw.choice(["S1", "S2", "S3", "P1", "Z"])),
-                schedule_relationship=some(draw, 0.7, lambda: draw.randrange(3)), arrival=some(draw, 0.6, lambda: stop_event(draw)), departure=some(draw, 0.5, lambda: stop_event(draw)))
+                schedule_relationship=some(draw, 0.7, lambda: draw.randrange(3)), arrival=some(draw, 0.6, lambda: stop_event(draw)), departure=some(draw, 0.5, lambda: stop_event(draw)),
+                stop_time_properties=some(draw, 0.3, lambda: kept(assigned_stop_id=some(draw, 0.8, lambda: draw.choice(["S1", "S2", "P1", "Z", ""])))))
 
 
 def stamp(draw): return draw.choice([1700000000, 1700000010, 1700000070, 1700000071, 1104537599, 4294967296, 18446744073709551615, 0])
@@ -370,7 +373,8 @@ def entity(draw):
     if draw.random() < 0.1: e["is_deleted"] = draw.random() < 0.5
     if draw.random() < 0.6:
         e["trip_update"] = kept(trip=descriptor(draw), stop_time_update=some(draw, 0.85, lambda: [update(draw) for _ in range(draw.randrange(1, 5))]), vehicle=some(draw, 0.6, lambda: vehicle(draw)),
-                                timestamp=some(draw, 0.6, lambda: stamp(draw)))
+                                timestamp=some(draw, 0.6, lambda: stamp(draw)), trip_properties=some(draw, 0.3, lambda: kept(trip_id=some(draw, 0.7, lambda: "T1 again"),
+                                start_date=some(draw, 0.6, lambda: draw.choice(["20231114", "20230230", "x", ""])), start_time=some(draw, 0.6, lambda: draw.choice(["08:00:00", "8:00:00", "25:10:00", ""])))))
     if draw.random() < 0.5:
         e["vehicle"] = kept(trip=some(draw, 0.8, lambda: descriptor(draw)), vehicle=some(draw, 0.8, lambda: vehicle(draw)), timestamp=some(draw, 0.6, lambda: stamp(draw)), stop_id=some(draw, 0.4, lambda: draw.choice(["S1", "P1", "Z"])))
     if draw.random() < 0.4:
@@ -382,7 +386,7 @@ def entity(draw):
 
 
 def feed(draw):
-    header = kept(gtfs_realtime_version=draw.choice(["2.0", "2.0", "1.0", "9"]), incrementality=some(draw, 0.8, lambda: 0), timestamp=some(draw, 0.85, lambda: stamp(draw)))
+    header = kept(gtfs_realtime_version=draw.choice(["2.0", "2.0", "1.0", "9"]), incrementality=some(draw, 0.8, lambda: 0), timestamp=some(draw, 0.85, lambda: stamp(draw)), feed_version=some(draw, 0.3, lambda: draw.choice(["2023-11", ""])))
     return kept(header=header, entity=some(draw, 0.95, lambda: [entity(draw) for _ in range(draw.randrange(1, 8))]))
 
 

@@ -119,6 +119,7 @@ WORDS = [
     ("cell", ["trip_update.stop_time_update[3].arrival.delay"], -60, "trip_update.stop_time_update[3].arrival.delay is -60 s"),
     ("cell", ["trip_update.stop_time_update[3].schedule_relationship"], 2, "trip_update.stop_time_update[3].schedule_relationship is 2 (NO_DATA)"),
     ("cell", ["vehicle.trip.schedule_relationship"], 2, "vehicle.trip.schedule_relationship is 2 (UNSCHEDULED)"),
+    ("cell", ["trip_update.trip.schedule_relationship"], 6, "trip_update.trip.schedule_relationship is 6 (DUPLICATED)"),
     ("cell", ["trip_update.stop_time_update"], 0, "trip_update.stop_time_update has 0 items"),
     ("cell", ["alert.informed_entity"], 1, "alert.informed_entity has 1 item"),
     ("cell", ["is_deleted"], 0, "is_deleted is false"),
