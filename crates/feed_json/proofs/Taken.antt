@@ -42,6 +42,7 @@ over_merged (schema.text n name Optional rest) t f old new = by_case (f.number =
         → option_map (λ w. (option_or new.0 old.0, w)) (merged rest f (over rest old.1 new.1)) ≡ option_map (over (schema.text n name Optional rest) old) (option_map (λ w. (new.0, w)) o)
     behind None e = rw e refl
     behind (Some w) e = rw e refl
+
     by_case : (b : Bool) (o : Option (List ℕ))
         → cond b (option_map (λ c. (c, over rest old.1 new.1)) (option_map (λ p. Some p) o)) (option_map (λ w. (option_or new.0 old.0, w)) (merged rest f (over rest old.1 new.1)))
         ≡ option_map (over (schema.text n name Optional rest) old) (cond b (option_map (λ c. (c, new.1)) (option_map (λ p. Some p) o)) (option_map (λ w. (new.0, w)) (merged rest f new.1)))

@@ -20,7 +20,10 @@ use crate::writing::{
     put_bool, put_message, put_optional, put_optional_text, put_repeated, put_text, put_u32,
     put_u64,
 };
-use feed_values::{Alert, Apart, Entity, FeedHeader, FeedMessage, Items, Slots, Text, TripUpdate, Unknown, UnknownValue, VehiclePosition};
+use feed_values::{
+    Alert, Apart, Entity, FeedHeader, FeedMessage, Items, Slots, Text, TripUpdate, Unknown,
+    UnknownValue, VehiclePosition,
+};
 use serde_json::{Map, Value};
 use std::alloc::{AllocError, Global};
 use std::mem;

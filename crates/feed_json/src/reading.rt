@@ -182,7 +182,8 @@ fn number_or_from(
 {
     match value.as_u64() {
         Some(number) => {
-            if u64::from(first) <= number && number <= u64::from(last) || number == u64::from(more)
+            if u64::from(first) <= number && number <= u64::from(last)
+                || number == u64::from(more)
             {
                 Ok(number as u32)
             } else {
@@ -212,11 +213,7 @@ pub fn optional_enum_or(
     ensures fits { IfOk result (λ o. IfSome (natural o) (InJson key.now (schema.EnumOr first last more))) }
 {
     match value.get(key) {
-        Some(held) => Ok(Some(under(
-            alloc,
-            key,
-            number_or_from(alloc, held, first, last, more),
-        )?)),
+        Some(held) => Ok(Some(under(alloc, key, number_or_from(alloc, held, first, last, more))?)),
         None => Ok(None),
     }
 }

@@ -13,15 +13,18 @@ ghost use Rattle.feed_json.specs.Unform.{slots_of};
 use crate::json_fault::JsonFault;
 use crate::later::{Later, is_item_of, settle};
 use crate::message::{Form, needed_message, optional_message, repeated};
+use crate::properties::{with_stop_time_properties, with_trip_properties};
 use crate::reading::{
     optional_enum, optional_i32, optional_i64, optional_text, optional_u32, optional_u64,
 };
-use crate::properties::{with_stop_time_properties, with_trip_properties};
 use crate::unknown::{items_at, put_unknown, unknown_fields};
 use crate::writing::{
     put_i32, put_i64, put_message, put_optional, put_optional_text, put_repeated, put_u32, put_u64,
 };
-use feed_codec::{check_stop_time_properties, check_trip_properties, decode_stop_time_properties, decode_trip_properties};
+use feed_codec::{
+    check_stop_time_properties, check_trip_properties, decode_stop_time_properties,
+    decode_trip_properties,
+};
 use feed_values::{Items, Slots, StopTimeEvent, StopTimeUpdate, TripUpdate, Unknown, UnknownValue};
 use serde_json::{Map, Value};
 use std::alloc::{AllocError, Global};
