@@ -7,7 +7,7 @@ use Rattle.feed_values.specs.declared.required.Required.{Required}
 use Rattle.feed_values.specs.declared.required.Required.TheVariants as required
 use Rattle.feed_values.specs.Schema as schema
 use Rattle.feed_values.specs.Schema.{Schema, Presence, Optional, Needed, Bits32}
-use Rattle.feed_values.specs.Messages.{translation, translated_string, trip_descriptor, vehicle_descriptor, stop_time_update, time_range, entity_selector, alert, position, vehicle_position, trip_update, entity}
+use Rattle.feed_values.specs.Messages.{translation, translated_string, trip_descriptor, vehicle_descriptor, stop_time_update, time_range, entity_selector, alert, position, vehicle_position, trip_properties, trip_update, entity}
 use Rattle.feed_values.specs.Meaning.{fields, given, in_slot, payload_in, scalar_in, option_case}
 use Rattle.feed_values.specs.Accepted.{absent, missing, missing_message, first_missing}
 use Rattle.feed_codec.specs.declared.paths.Sought.TheVariants as sought
@@ -105,7 +105,9 @@ trip_update_missing l =
     (neither (first_missing (missing stop_time_update) (given (in_slot payload_in 2) l)) _
     (free_repeated (missing stop_time_update) (nothing_missing stop_time_update refl) (given (in_slot payload_in 2) l))
     (neither (missing_message Optional (missing vehicle_descriptor) (given (in_slot payload_in 3) l)) _
-    (free_message Optional (missing vehicle_descriptor) (nothing_missing vehicle_descriptor refl) (given (in_slot payload_in 3) l) refl) refl))
+    (free_message Optional (missing vehicle_descriptor) (nothing_missing vehicle_descriptor refl) (given (in_slot payload_in 3) l) refl)
+    (neither (missing_message Optional (missing trip_properties) (given (in_slot payload_in 6) l)) _
+    (free_message Optional (missing trip_properties) (nothing_missing trip_properties refl) (given (in_slot payload_in 6) l) refl) refl)))
     ∙ message_itself required.Trip trip_descriptor refl (given (in_slot payload_in 1) l)
     ∙ slot_missing required.Trip (in_slot payload_in 1) l
 

@@ -127,10 +127,6 @@ unknown_left k low (r ∷ front) us b h = rw (b.0.1) (unknown_left k low front u
 pair_is : {A B : Type 0} (v : A × B) (a : A) (b : B) → a ≡ v.0 → b ≡ v.1 → (a, b) ≡ v
 pair_is v a b p q = ap (λ x. (x, b)) p ∙ ap (λ y. (v.0, y)) q
 
-or_true : (a b : Bool) → b ≡ true → (a || b) ≡ true
-or_true true b e = refl
-or_true false b e = e
-
 known_here : {A : Type 0} (give : wire.WireValue → Option A) (n : ℕ) (x : wire.WireValue) (y : A) (later : Bool) → give x ≡ Some y → (is_some (in_slot give n (field_of n x)) || later) ≡ true
 known_here give n x y later e = rw (eq-eqb n n refl, e) refl
 
