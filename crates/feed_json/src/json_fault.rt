@@ -20,7 +20,8 @@ pub enum JsonFault {
     UnknownKey(Text),
     /// A number is outside the range of its type, no number of its enum, or DIFFERENTIAL at a header's incrementality. Of
     /// an unknown field: a number outside 1 to 2^29 - 1, a wire type other than 0, 1, 2, 3 and 5, digits that aren't an
-    /// even number of hexadecimal ones, bytes that no group holds, or a field that is of a slot of its message.
+    /// even number of hexadecimal ones, bytes that no group holds, or a field that is of a slot of its message, unless the
+    /// slot came later and takes its value.
     #[error("{0:?}: out of range")]
     OutOfRange(Text),
     /// A field that has to be there isn't.

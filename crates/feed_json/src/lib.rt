@@ -5,6 +5,9 @@
 //! floats are whole numbers. Last, `unknown` has the fields of no slot: number, wire type and value, bytes in hexadecimal
 //! digits. So every field and every unknown byte of a snapshot is in its form.
 //!
+//! The reference got fields after this form was first written. What stands under `unknown` of them in an older text, and
+//! is of the wire type of its field, is read as the decoder reads it from bytes (`specs/Later.antt`).
+//!
 //! - `to_json` gives the form of a message. It holds no float, so its text is exact. `to_text` gives that text, and makes it
 //!   entity by entity.
 //! - `from_json` gives the message that a tree says, which is well formed, or the first fault of the tree with its path.
@@ -25,7 +28,8 @@
 //! - `message`: any message, from JSON and to it; `three`: three messages and what stands behind them, at the end of an entity
 //! - `writing`: the members of an object, one slot at a time
 //! - `unknown`: unknown fields, from JSON and to it
-//! - `descriptors`, `translation`, `alert`, `vehicle_position`, `trip_update`, `feed`: the kinds of message
+//! - `later`: fields of later slots among unknown ones, moved to their slots
+//! - `descriptors`, `translation`, `alert`, `vehicle_position`, `properties`, `trip_update`, `feed`: the kinds of message
 //! - `snapshot`: a whole snapshot as JSON, and from it
 //! - `text`: the text of a form
 //! - `laws`: that nothing is lost, and what a first fault is
