@@ -1,7 +1,9 @@
 -- A field that is moved takes effect as it does where a snapshot's bytes have it.
 use Rattle.std.proofs.Common.{◌≡◌, ◌==◌, ℕ, ◌%◌, ◌^◌, ℤ, pos, Bool, true, false, cond, ◌&&◌, ◌||◌, List, [], ◌∷◌, ◌++◌, Option, Some, None, refl, sym, ap, subst, ◌∙◌, append_assoc, option_map, rules}
 use Rattle.std.specs.Option.{is_some, option_or, unwrap_or}
+use Rattle.std.specs.Str.{IsUtf8, is_utf8}
 use Rattle.std.proofs.lemmas.Bool.{eqb-true}
+use Rattle.std.proofs.lemmas.Str.{IsUtf8-from_is_utf8, is_utf8-from_IsUtf8}
 use Rattle.std.proofs.lemmas.List.{append-nil}
 use Rattle.rt_wire.specs.Fields.{WireField, WireValue, Varint, Fixed64, Len, Group, Fixed32}
 use Rattle.feed_values.specs.Schema as schema
@@ -165,3 +167,15 @@ pub stop_taken : (f : WireField) (v : Value stop_time_update) → is_moved stop_
 stop_taken f v h =
     let p = payload_at (f.number == 6) (payload_in f.value) h in
     subst (λ n. moved stop_time_update (field n f.value) v ≡ with_field stop_time_update (field n f.value) v) (sym (eqb-true f.number 6 p.0)) (stop_six f.value v p.1)
+
+-- ---- texts
+
+pub text : (l : List ℕ) → IsUtf8 l → true ≡ is_utf8 l
+text l u = sym (is_utf8-from_IsUtf8 l u)
+
+pub no_text : (l : List ℕ) → (IsUtf8 l → ⊥) → false ≡ is_utf8 l
+no_text l u = by_case (is_utf8 l) refl
+  where
+    by_case : (b : Bool) → is_utf8 l ≡ b → false ≡ b
+    by_case true e = absurd (u (IsUtf8-from_is_utf8 l e))
+    by_case false e = refl

@@ -67,17 +67,17 @@ pub record IsItem (whole : Schema) (f : WireField) : Type 0 where
 -- ---- what they do
 
 -- what is given in place of what was, where it is given
-abbrev pub given_over : {A : Type 0} → (presence : Presence) → Held presence A → Held presence A → Held presence A
-given_over Optional old new = option_or new old
-given_over (Needed which) old new = new
+abbrev pub given_over : (A : Type 0) (presence : Presence) → Held presence A → Held presence A → Held presence A
+given_over A Optional old new = option_or new old
+given_over A (Needed which) old new = new
 
 -- What a message holds once another is laid over it: each slot that the other gives is the other's, and its repeated and unknown fields
 -- follow those that were there.
 abbrev pub over : (s : Schema) → Value s → Value s → Value s
 over schema.end old new = old ++ new
-over (schema.scalar n name presence t rest) old new = (given_over presence old.0 new.0, over rest old.1 new.1)
-over (schema.text n name presence rest) old new = (given_over presence old.0 new.0, over rest old.1 new.1)
-over (schema.message n name presence m rest) old new = (given_over presence old.0 new.0, over rest old.1 new.1)
+over (schema.scalar n name presence t rest) old new = (given_over ℤ presence old.0 new.0, over rest old.1 new.1)
+over (schema.text n name presence rest) old new = (given_over (List ℕ) presence old.0 new.0, over rest old.1 new.1)
+over (schema.message n name presence m rest) old new = (given_over (Value m) presence old.0 new.0, over rest old.1 new.1)
 over (schema.repeated n name m rest) old new = (old.0 ++ new.0, over rest old.1 new.1)
 
 -- What a message holds once a field was moved to its slot: a number or a text takes the place of what was held, and what a payload means as a

@@ -3,11 +3,17 @@
 use crate::json_fault::JsonFault;
 use crate::message::{Form, optional_message, repeated};
 use crate::reading::{optional_enum, optional_i32, optional_text, optional_u64};
-use crate::unknown::{put_unknown, unknown_fields};
+use crate::unknown::{UnknownItems, put_unknown, unknown_fields};
 use crate::writing::{put_i32, put_optional, put_optional_text, put_repeated, put_u32, put_u64};
 use feed_values::{Alert, EntitySelector, Slots, TimeRange, Unknown};
 use serde_json::{Map, Value};
 use std::alloc::{AllocError, Global};
+
+impl UnknownItems for Alert {
+    fn is_item(field: &Unknown) -> bool {
+        !Alert::takes(field)
+    }
+}
 
 impl Form for Alert {
     fn names() -> &'static [&'static str] {
@@ -36,10 +42,6 @@ impl Form for Alert {
         })
     }
 
-    fn is_item(field: &Unknown) -> bool {
-        !Alert::takes(field)
-    }
-
     fn put(&self, alloc: Global, members: &mut Map<String, Value>) -> Result<(), AllocError> {
         put_repeated(alloc, members, "active_period", &self.active_period)?;
         put_repeated(alloc, members, "informed_entity", &self.informed_entity)?;
@@ -49,6 +51,12 @@ impl Form for Alert {
         put_optional(alloc, members, "header_text", &self.header_text)?;
         put_optional(alloc, members, "description_text", &self.description_text)?;
         put_unknown(alloc, members, &self.unknown)
+    }
+}
+
+impl UnknownItems for TimeRange {
+    fn is_item(field: &Unknown) -> bool {
+        !TimeRange::takes(field)
     }
 }
 
@@ -65,14 +73,16 @@ impl Form for TimeRange {
         })
     }
 
-    fn is_item(field: &Unknown) -> bool {
-        !TimeRange::takes(field)
-    }
-
     fn put(&self, alloc: Global, members: &mut Map<String, Value>) -> Result<(), AllocError> {
         put_u64(alloc, members, "start", self.start)?;
         put_u64(alloc, members, "end", self.end)?;
         put_unknown(alloc, members, &self.unknown)
+    }
+}
+
+impl UnknownItems for EntitySelector {
+    fn is_item(field: &Unknown) -> bool {
+        !EntitySelector::takes(field)
     }
 }
 
@@ -97,10 +107,6 @@ impl Form for EntitySelector {
             stop_id: optional_text(alloc, value, "stop_id")?,
             unknown: unknown_fields::<EntitySelector>(alloc, value)?,
         })
-    }
-
-    fn is_item(field: &Unknown) -> bool {
-        !EntitySelector::takes(field)
     }
 
     fn put(&self, alloc: Global, members: &mut Map<String, Value>) -> Result<(), AllocError> {

@@ -15,7 +15,7 @@ use crate::json_fault::JsonFault;
 use crate::later::{Later, is_item_of, settle};
 use crate::message::Form;
 use crate::reading::{optional_enum_or, optional_text, optional_u32};
-use crate::unknown::{items_at, put_unknown, unknown_fields};
+use crate::unknown::{UnknownItems, items_at, put_unknown, unknown_fields};
 use crate::writing::{put_optional_text, put_u32};
 use feed_values::{Items, Slots, TripDescriptor, Unknown, UnknownValue, VehicleDescriptor};
 use serde_json::{Map, Value};
@@ -73,6 +73,12 @@ impl Later for TripDescriptor {
     }
 }
 
+impl UnknownItems for TripDescriptor {
+    fn is_item(field: &Unknown) -> bool {
+        is_item_of::<TripDescriptor>(field)
+    }
+}
+
 impl Form for TripDescriptor {
     fn names() -> &'static [&'static str] {
         &[
@@ -91,10 +97,6 @@ impl Form for TripDescriptor {
         Ok(settle(alloc, trip)?)
     }
 
-    fn is_item(field: &Unknown) -> bool {
-        is_item_of::<TripDescriptor>(field)
-    }
-
     fn put(&self, alloc: Global, members: &mut Map<String, Value>) -> Result<(), AllocError> {
         put_optional_text(alloc, members, "trip_id", &self.trip_id)?;
         put_optional_text(alloc, members, "start_time", &self.start_time)?;
@@ -111,6 +113,12 @@ impl Form for TripDescriptor {
     }
 }
 
+impl UnknownItems for VehicleDescriptor {
+    fn is_item(field: &Unknown) -> bool {
+        !VehicleDescriptor::takes(field)
+    }
+}
+
 impl Form for VehicleDescriptor {
     fn names() -> &'static [&'static str] {
         &["id", "label", "license_plate", "unknown"]
@@ -123,10 +131,6 @@ impl Form for VehicleDescriptor {
             license_plate: optional_text(alloc, value, "license_plate")?,
             unknown: unknown_fields::<VehicleDescriptor>(alloc, value)?,
         })
-    }
-
-    fn is_item(field: &Unknown) -> bool {
-        !VehicleDescriptor::takes(field)
     }
 
     fn put(&self, alloc: Global, members: &mut Map<String, Value>) -> Result<(), AllocError> {

@@ -15,7 +15,7 @@ use crate::later::{Later, is_item_of, settle};
 use crate::message::{Form, needed_message, repeated};
 use crate::reading::{needed_text, optional_bool, optional_enum, optional_text, optional_u64};
 use crate::three::three_from;
-use crate::unknown::{is_text, items_at, put_unknown, unknown_fields};
+use crate::unknown::{UnknownItems, is_text, items_at, put_unknown, unknown_fields};
 use crate::writing::{
     put_bool, put_message, put_optional, put_optional_text, put_repeated, put_text, put_u32,
     put_u64,
@@ -28,6 +28,12 @@ use serde_json::{Map, Value};
 use std::alloc::{AllocError, Global};
 use std::mem;
 
+impl UnknownItems for FeedMessage {
+    fn is_item(field: &Unknown) -> bool {
+        !FeedMessage::takes(field)
+    }
+}
+
 impl Form for FeedMessage {
     fn names() -> &'static [&'static str] {
         &["header", "entity", "unknown"]
@@ -39,10 +45,6 @@ impl Form for FeedMessage {
             entity: repeated(alloc, value, "entity")?,
             unknown: unknown_fields::<FeedMessage>(alloc, value)?,
         })
-    }
-
-    fn is_item(field: &Unknown) -> bool {
-        !FeedMessage::takes(field)
     }
 
     fn put(&self, alloc: Global, members: &mut Map<String, Value>) -> Result<(), AllocError> {
@@ -98,6 +100,12 @@ impl Later for FeedHeader {
     }
 }
 
+impl UnknownItems for FeedHeader {
+    fn is_item(field: &Unknown) -> bool {
+        is_item_of::<FeedHeader>(field)
+    }
+}
+
 impl Form for FeedHeader {
     fn names() -> &'static [&'static str] {
         &[
@@ -114,10 +122,6 @@ impl Form for FeedHeader {
         Ok(settle(alloc, header)?)
     }
 
-    fn is_item(field: &Unknown) -> bool {
-        is_item_of::<FeedHeader>(field)
-    }
-
     fn put(&self, alloc: Global, members: &mut Map<String, Value>) -> Result<(), AllocError> {
         put_text(
             alloc,
@@ -129,6 +133,12 @@ impl Form for FeedHeader {
         put_u64(alloc, members, "timestamp", self.timestamp)?;
         put_optional_text(alloc, members, "feed_version", &self.feed_version)?;
         put_unknown(alloc, members, &self.unknown)
+    }
+}
+
+impl UnknownItems for Entity {
+    fn is_item(field: &Unknown) -> bool {
+        !Entity::takes(field)
     }
 }
 
@@ -162,10 +172,6 @@ impl Form for Entity {
             alert: parts.third,
             unknown: parts.unknown,
         })
-    }
-
-    fn is_item(field: &Unknown) -> bool {
-        !Entity::takes(field)
     }
 
     fn put(&self, alloc: Global, members: &mut Map<String, Value>) -> Result<(), AllocError> {

@@ -43,6 +43,7 @@ pub fn is_item_of<M: Later>(field: &Unknown) -> bool
 }
 
 /// Moves the fields of such slots among a message's unknown ones, in their order, and keeps the others.
+#[tactic(auto, using(crate::proofs::Settled::ends_at_first, crate::proofs::Settled::ends_moved, crate::proofs::Settled::ends_kept, crate::proofs::Settled::ends_at_last, crate::proofs::Settled::moved_may, crate::proofs::Settled::kept_unknown, crate::proofs::Settled::holds_with, crate::proofs::Lists::all_push))]
 pub fn settle<M: Later>(alloc: Global, message: M) -> Result<M, AllocError>
     requires holds { Holds M.schema M.schema (with_unknown M.schema [] (M.value message)) }
     requires items { AllByRecursion (IsItem M.schema) (unknown_in M.schema (M.value message)) }

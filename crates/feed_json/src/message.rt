@@ -9,13 +9,11 @@ ghost use Rattle.feed_json.specs.Form.{form, with_slots};
 ghost use Rattle.feed_json.specs.Faults.{item_key, under};
 ghost use Rattle.feed_json.specs.Holds.{Holds};
 ghost use Rattle.feed_json.specs.Reads.{Reads};
-ghost use Rattle.feed_values.specs.Views.{unknown_field};
-ghost use Rattle.feed_json.specs.Later.{is_item};
 ghost use Rattle.feed_json.specs.Unform.{unform, settling, slots_of, is_key, names_of, first_unknown, needed_at, optional_at, array_at, each_of};
 
 use crate::json_fault::JsonFault;
 use crate::paths::{text_of, under, wrong_kind};
-use feed_values::{Apart, Blank, Boxed, Items, Slots, Unknown};
+use feed_values::{Apart, Blank, Boxed, Items, Slots};
 use serde_json::{Map, Value};
 use std::alloc::{AllocError, Global};
 
@@ -29,10 +27,6 @@ pub trait Form: Slots + Drop {
     fn read(alloc: Global, value: &Value) -> Result<Self, JsonFault>
         ensures read { Reads Self.value (settling Self.schema (slots_of Self.schema Self.schema (view value.now))) result }
         ensures fits { IfOk result (λ message. Holds Self.schema Self.schema (Self.value message)) };
-
-    /// Whether a field may be an item of `unknown`: where it is of no slot, or of one that the reference got later.
-    fn is_item(field: &Unknown) -> bool
-        ensures { result ≡ is_item Self.schema (unknown_field field.now) };
 
     /// Puts a member for each slot that holds something, and one for the unknown fields. After want of memory they
     /// are only dropped.
@@ -51,10 +45,6 @@ impl<M: Form + Blank> Form for Boxed<M> {
         Ok(Boxed::new(alloc, M::read(alloc, value)?)?)
     }
 
-    fn is_item(field: &Unknown) -> bool {
-        M::is_item(field)
-    }
-
     fn put(&self, alloc: Global, members: &mut Map<String, Value>) -> Result<(), AllocError> {
         match self.get() {
             Some(message) => message.put(alloc, members),
@@ -71,10 +61,6 @@ impl<M: Form> Form for Apart<M> {
 
     fn read(alloc: Global, value: &Value) -> Result<Apart<M>, JsonFault> {
         Ok(Apart::new(alloc, M::read(alloc, value)?)?)
-    }
-
-    fn is_item(field: &Unknown) -> bool {
-        M::is_item(field)
     }
 
     fn put(&self, alloc: Global, members: &mut Map<String, Value>) -> Result<(), AllocError> {

@@ -10,11 +10,17 @@ ghost use Rattle.feed_json.specs.Later.{over};
 use crate::json_fault::JsonFault;
 use crate::message::Form;
 use crate::reading::optional_text;
-use crate::unknown::{put_unknown, unknown_fields};
+use crate::unknown::{UnknownItems, put_unknown, unknown_fields};
 use crate::writing::put_optional_text;
 use feed_values::{Apart, Items, Slots, StopTimeProperties, Text, TripProperties, Unknown};
 use serde_json::{Map, Value};
 use std::alloc::{AllocError, Global};
+
+impl UnknownItems for TripProperties {
+    fn is_item(field: &Unknown) -> bool {
+        !TripProperties::takes(field)
+    }
+}
 
 impl Form for TripProperties {
     fn names() -> &'static [&'static str] {
@@ -30,15 +36,17 @@ impl Form for TripProperties {
         })
     }
 
-    fn is_item(field: &Unknown) -> bool {
-        !TripProperties::takes(field)
-    }
-
     fn put(&self, alloc: Global, members: &mut Map<String, Value>) -> Result<(), AllocError> {
         put_optional_text(alloc, members, "trip_id", &self.trip_id)?;
         put_optional_text(alloc, members, "start_date", &self.start_date)?;
         put_optional_text(alloc, members, "start_time", &self.start_time)?;
         put_unknown(alloc, members, &self.unknown)
+    }
+}
+
+impl UnknownItems for StopTimeProperties {
+    fn is_item(field: &Unknown) -> bool {
+        !StopTimeProperties::takes(field)
     }
 }
 
@@ -52,10 +60,6 @@ impl Form for StopTimeProperties {
             assigned_stop_id: optional_text(alloc, value, "assigned_stop_id")?,
             unknown: unknown_fields::<StopTimeProperties>(alloc, value)?,
         })
-    }
-
-    fn is_item(field: &Unknown) -> bool {
-        !StopTimeProperties::takes(field)
     }
 
     fn put(&self, alloc: Global, members: &mut Map<String, Value>) -> Result<(), AllocError> {
@@ -78,11 +82,9 @@ fn latter(held: Option<Text>, given: Option<Text>) -> Option<Text>
 fn joined(held: Items<Unknown>, given: Items<Unknown>) -> Result<Items<Unknown>, AllocError>
     ensures { IfOk result (λ both. both ≡ held ++ given) }
 {
-    let mut fields = held;
-    for field in given.into_vec() {
-        fields.push(field)?;
-    }
-    Ok(fields)
+    let mut fields = held.into_vec();
+    fields.append(&mut given.into_vec())?;
+    Ok(Items::from_vec(fields))
 }
 
 /// Properties of a trip laid over those that are held.

@@ -14,7 +14,7 @@ ghost use Rattle.feed_json.specs.Unform.{unform, unknown_of, optional_at, array_
 
 use crate::json_fault::JsonFault;
 use crate::message::{Form, optional_message};
-use crate::unknown::unknown_fields;
+use crate::unknown::{UnknownItems, unknown_fields};
 use feed_values::{Items, Unknown};
 use serde_json::Value;
 use std::alloc::Global;
@@ -32,7 +32,7 @@ pub struct Three<A, B, C> {
 }
 
 /// The messages at three keys, and the unknown fields of a message of kind `M`.
-pub fn three_from<A: Form, B: Form, C: Form, M: Form>(
+pub fn three_from<A: Form, B: Form, C: Form, M: UnknownItems>(
     alloc: Global,
     value: &Value,
     first: &str,

@@ -3,11 +3,17 @@
 use crate::json_fault::JsonFault;
 use crate::message::{Form, repeated};
 use crate::reading::{needed_text, optional_text};
-use crate::unknown::{put_unknown, unknown_fields};
+use crate::unknown::{UnknownItems, put_unknown, unknown_fields};
 use crate::writing::{put_optional_text, put_repeated, put_text};
 use feed_values::{Slots, TranslatedString, Translation, Unknown};
 use serde_json::{Map, Value};
 use std::alloc::{AllocError, Global};
+
+impl UnknownItems for TranslatedString {
+    fn is_item(field: &Unknown) -> bool {
+        !TranslatedString::takes(field)
+    }
+}
 
 impl Form for TranslatedString {
     fn names() -> &'static [&'static str] {
@@ -21,13 +27,15 @@ impl Form for TranslatedString {
         })
     }
 
-    fn is_item(field: &Unknown) -> bool {
-        !TranslatedString::takes(field)
-    }
-
     fn put(&self, alloc: Global, members: &mut Map<String, Value>) -> Result<(), AllocError> {
         put_repeated(alloc, members, "translation", &self.translation)?;
         put_unknown(alloc, members, &self.unknown)
+    }
+}
+
+impl UnknownItems for Translation {
+    fn is_item(field: &Unknown) -> bool {
+        !Translation::takes(field)
     }
 }
 
@@ -42,10 +50,6 @@ impl Form for Translation {
             language: optional_text(alloc, value, "language")?,
             unknown: unknown_fields::<Translation>(alloc, value)?,
         })
-    }
-
-    fn is_item(field: &Unknown) -> bool {
-        !Translation::takes(field)
     }
 
     fn put(&self, alloc: Global, members: &mut Map<String, Value>) -> Result<(), AllocError> {

@@ -17,7 +17,7 @@ use crate::properties::{with_stop_time_properties, with_trip_properties};
 use crate::reading::{
     optional_enum, optional_i32, optional_i64, optional_text, optional_u32, optional_u64,
 };
-use crate::unknown::{items_at, put_unknown, unknown_fields};
+use crate::unknown::{UnknownItems, items_at, put_unknown, unknown_fields};
 use crate::writing::{
     put_i32, put_i64, put_message, put_optional, put_optional_text, put_repeated, put_u32, put_u64,
 };
@@ -81,6 +81,12 @@ impl Later for TripUpdate {
     }
 }
 
+impl UnknownItems for TripUpdate {
+    fn is_item(field: &Unknown) -> bool {
+        is_item_of::<TripUpdate>(field)
+    }
+}
+
 impl Form for TripUpdate {
     fn names() -> &'static [&'static str] {
         &[
@@ -97,10 +103,6 @@ impl Form for TripUpdate {
     fn read(alloc: Global, value: &Value) -> Result<TripUpdate, JsonFault> {
         let update = update_slots(alloc, value)?;
         Ok(settle(alloc, update)?)
-    }
-
-    fn is_item(field: &Unknown) -> bool {
-        is_item_of::<TripUpdate>(field)
     }
 
     fn put(&self, alloc: Global, members: &mut Map<String, Value>) -> Result<(), AllocError> {
@@ -165,6 +167,12 @@ impl Later for StopTimeUpdate {
     }
 }
 
+impl UnknownItems for StopTimeUpdate {
+    fn is_item(field: &Unknown) -> bool {
+        is_item_of::<StopTimeUpdate>(field)
+    }
+}
+
 impl Form for StopTimeUpdate {
     fn names() -> &'static [&'static str] {
         &[
@@ -181,10 +189,6 @@ impl Form for StopTimeUpdate {
     fn read(alloc: Global, value: &Value) -> Result<StopTimeUpdate, JsonFault> {
         let update = stop_slots(alloc, value)?;
         Ok(settle(alloc, update)?)
-    }
-
-    fn is_item(field: &Unknown) -> bool {
-        is_item_of::<StopTimeUpdate>(field)
     }
 
     fn put(&self, alloc: Global, members: &mut Map<String, Value>) -> Result<(), AllocError> {
@@ -208,6 +212,12 @@ impl Form for StopTimeUpdate {
     }
 }
 
+impl UnknownItems for StopTimeEvent {
+    fn is_item(field: &Unknown) -> bool {
+        !StopTimeEvent::takes(field)
+    }
+}
+
 impl Form for StopTimeEvent {
     fn names() -> &'static [&'static str] {
         &["delay", "time", "uncertainty", "unknown"]
@@ -220,10 +230,6 @@ impl Form for StopTimeEvent {
             uncertainty: optional_i32(alloc, value, "uncertainty")?,
             unknown: unknown_fields::<StopTimeEvent>(alloc, value)?,
         })
-    }
-
-    fn is_item(field: &Unknown) -> bool {
-        !StopTimeEvent::takes(field)
     }
 
     fn put(&self, alloc: Global, members: &mut Map<String, Value>) -> Result<(), AllocError> {

@@ -15,20 +15,26 @@ ghost use Rattle.serde_json.specs.Written.{has_float};
 ghost use Rattle.feed_values.specs.Views.{unknown_field, unknown_value};
 ghost use Rattle.feed_json.specs.Faults.{item_key, under};
 ghost use Rattle.feed_json.specs.Form.{unknown_form, wire_form, with_member, array_form};
-ghost use Rattle.feed_json.specs.Later.{IsItem, has_later};
+ghost use Rattle.feed_json.specs.Later.{IsItem, has_later, is_item};
 ghost use Rattle.feed_json.specs.Reads.{Reads};
 ghost use Rattle.feed_json.specs.Unform.{bytes_of, group_of, is_whole, wire_of, value_of, field_of, item_of, unknown_of, is_item_key, first_unknown, needed_at, array_at, each_of, natural_of};
 
 use crate::json_fault::JsonFault;
-use crate::message::Form;
 use crate::paths::{out_of_range, text_of, under, wrong_kind};
 use crate::reading::{natural_from, u32_from};
 use crate::writing::put_array;
-use feed_values::{Items, Raw, Unknown, UnknownValue};
+use feed_values::{Items, Raw, Slots, Unknown, UnknownValue};
 use hex::FromHexError;
 use rt_wire::group_depth;
 use serde_json::{Map, Value, json};
 use std::alloc::{AllocError, Global};
+
+/// A kind of message, whose object has what is of no slot under `unknown`.
+pub trait UnknownItems: Slots {
+    /// Whether a field may stand there: where it is of no slot, or of one that the reference got later.
+    fn is_item(field: &Unknown) -> bool
+        ensures { result ≡ is_item Self.schema (unknown_field field.now) };
+}
 
 /// Bytes with memory of their own.
 fn raw_of(alloc: Global, bytes: &[u8]) -> Result<Raw, AllocError>
@@ -78,10 +84,14 @@ fn group_from(alloc: Global, value: &Value) -> Result<UnknownValue, JsonFault>
 }
 
 /// Whether bytes are a text.
+#[tactic(auto, using(crate::proofs::Taken::text, crate::proofs::Taken::no_text))]
 pub fn is_text(bytes: &[u8]) -> bool
     ensures { result ≡ is_utf8 bytes.now }
 {
-    str::from_utf8(bytes).is_ok()
+    match str::from_utf8(bytes) {
+        Ok(_) => true,
+        Err(_) => false,
+    }
 }
 
 /// A wire type: 0 a varint, 1 eight bytes, 2 bytes with a length, 3 a group, 5 four bytes.
@@ -110,7 +120,7 @@ fn value_from(alloc: Global, wire: u32, value: &Value) -> Result<UnknownValue, J
 }
 
 /// A field that may be an item of a kind of message.
-fn field_from<M: Form>(
+fn field_from<M: UnknownItems>(
     alloc: Global,
     number: u32,
     wire: u32,
@@ -153,7 +163,7 @@ fn wire_at(alloc: Global, value: &Value) -> Result<u32, JsonFault>
 }
 
 /// The field of an item, by its number, its wire type and what stands at `value`.
-fn value_at<M: Form>(
+fn value_at<M: UnknownItems>(
     alloc: Global,
     number: u32,
     wire: u32,
@@ -184,7 +194,7 @@ fn unknown_key(members: &Map<String, Value>) -> Option<&str>
 }
 
 /// The unknown field that a tree says. Every other key than the three is unknown, `unknown` among them.
-fn unknown_from<M: Form>(alloc: Global, value: &Value) -> Result<Unknown, JsonFault>
+fn unknown_from<M: UnknownItems>(alloc: Global, value: &Value) -> Result<Unknown, JsonFault>
     ensures read { Reads unknown_field (unknown_of M.schema (view value.now)) result }
     ensures fits { IfOk result (λ field. IsItem M.schema (unknown_field field)) }
 {
@@ -200,7 +210,7 @@ fn unknown_from<M: Form>(alloc: Global, value: &Value) -> Result<Unknown, JsonFa
 }
 
 /// An item of `unknown`. Its place is made only where it has a fault.
-fn item_from<M: Form>(alloc: Global, value: &Value, i: usize) -> Result<Unknown, JsonFault>
+fn item_from<M: UnknownItems>(alloc: Global, value: &Value, i: usize) -> Result<Unknown, JsonFault>
     ensures read { Reads unknown_field (under (item_key (codes "unknown") i) (unknown_of M.schema (view value.now))) result }
     ensures fits { IfOk result (λ field. IsItem M.schema (unknown_field field)) }
 {
@@ -215,7 +225,7 @@ fn item_from<M: Form>(alloc: Global, value: &Value, i: usize) -> Result<Unknown,
 
 /// The items of `unknown`, in their order.
 #[tactic(auto, using(crate::proofs::Lists::all_push))]
-fn items_from<M: Form>(alloc: Global, items: &[Value]) -> Result<Items<Unknown>, JsonFault>
+fn items_from<M: UnknownItems>(alloc: Global, items: &[Value]) -> Result<Items<Unknown>, JsonFault>
     ensures read { Reads (map unknown_field) (each_of (codes "unknown") (unknown_of M.schema) 0 (items_view items.now)) result }
     ensures fits { IfOk result (λ list. AllByRecursion (IsItem M.schema) (map unknown_field list)) }
 {
@@ -229,7 +239,7 @@ fn items_from<M: Form>(alloc: Global, items: &[Value]) -> Result<Items<Unknown>,
 }
 
 /// The items of `unknown` of a message of kind `M`.
-pub fn items_at<M: Form>(alloc: Global, value: &Value) -> Result<Items<Unknown>, JsonFault>
+pub fn items_at<M: UnknownItems>(alloc: Global, value: &Value) -> Result<Items<Unknown>, JsonFault>
     ensures read { Reads (map unknown_field) (array_at (codes "unknown") (unknown_of M.schema) (get (codes "unknown") (view value.now))) result }
     ensures fits { IfOk result (λ list. AllByRecursion (IsItem M.schema) (map unknown_field list)) }
 {
@@ -244,7 +254,10 @@ pub fn items_at<M: Form>(alloc: Global, value: &Value) -> Result<Items<Unknown>,
 
 /// The unknown fields of a message of kind `M`, which has no slots that the reference got later.
 #[tactic(auto, using(crate::proofs::Settled::all_unknown))]
-pub fn unknown_fields<M: Form>(alloc: Global, value: &Value) -> Result<Items<Unknown>, JsonFault>
+pub fn unknown_fields<M: UnknownItems>(
+    alloc: Global,
+    value: &Value,
+) -> Result<Items<Unknown>, JsonFault>
     requires { has_later M.schema ≡ false }
     ensures read { Reads (map unknown_field) (array_at (codes "unknown") (unknown_of M.schema) (get (codes "unknown") (view value.now))) result }
     ensures fits { IfOk result (λ list. AllByRecursion (IsUnknown M.schema) (map unknown_field list)) }

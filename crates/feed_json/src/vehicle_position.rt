@@ -14,7 +14,7 @@ use crate::reading::{
     needed_bits32, optional_bits32, optional_bits64, optional_enum, optional_text, optional_u32,
     optional_u64,
 };
-use crate::unknown::{put_unknown, unknown_fields};
+use crate::unknown::{UnknownItems, put_unknown, unknown_fields};
 use crate::writing::{put_needed_u32, put_optional, put_optional_text, put_u32, put_u64};
 use feed_values::{Items, Position, Slots, Unknown, VehiclePosition};
 use serde_json::{Map, Value};
@@ -54,6 +54,12 @@ fn fill(alloc: Global, value: &Value, message: &mut VehiclePosition) -> Result<(
     Ok(())
 }
 
+impl UnknownItems for VehiclePosition {
+    fn is_item(field: &Unknown) -> bool {
+        !VehiclePosition::takes(field)
+    }
+}
+
 impl Form for VehiclePosition {
     fn names() -> &'static [&'static str] {
         &[
@@ -76,10 +82,6 @@ impl Form for VehiclePosition {
         Ok(Box::into_inner(message))
     }
 
-    fn is_item(field: &Unknown) -> bool {
-        !VehiclePosition::takes(field)
-    }
-
     fn put(&self, alloc: Global, members: &mut Map<String, Value>) -> Result<(), AllocError> {
         put_optional(alloc, members, "trip", &self.trip)?;
         put_optional(alloc, members, "position", &self.position)?;
@@ -96,6 +98,12 @@ impl Form for VehiclePosition {
         put_optional(alloc, members, "vehicle", &self.vehicle)?;
         put_u32(alloc, members, "occupancy_status", self.occupancy_status)?;
         put_unknown(alloc, members, &self.unknown)
+    }
+}
+
+impl UnknownItems for Position {
+    fn is_item(field: &Unknown) -> bool {
+        !Position::takes(field)
     }
 }
 
@@ -120,10 +128,6 @@ impl Form for Position {
             speed: optional_bits32(alloc, value, "speed")?,
             unknown: unknown_fields::<Position>(alloc, value)?,
         })
-    }
-
-    fn is_item(field: &Unknown) -> bool {
-        !Position::takes(field)
     }
 
     fn put(&self, alloc: Global, members: &mut Map<String, Value>) -> Result<(), AllocError> {
