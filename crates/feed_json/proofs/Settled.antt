@@ -1,5 +1,5 @@
 -- Fields that are moved to the slots that the reference got later.
-use Rattle.std.proofs.Common.{◌≡◌, ◌==◌, ℕ, ◌%◌, ◌^◌, pos, Bool, true, false, not, cond, ◌&&◌, ◌||◌, List, [], ◌∷◌, ◌++◌, Option, Some, None, Result, Ok, Err, refl, sym, ap, ◌∙◌, append_assoc, option_map}
+use Rattle.std.proofs.Common.{◌≡◌, ◌==◌, ℕ, ◌%◌, ◌^◌, pos, Bool, true, false, not, cond, leb, ◌&&◌, ◌||◌, List, [], ◌∷◌, ◌++◌, Option, Some, None, Result, Ok, Err, refl, sym, ap, ◌∙◌, append_assoc, option_map}
 use Rattle.std.specs.Option.{is_some, is_none, option_or, unwrap_or}
 use Rattle.std.specs.List.{filter, AllByRecursion}
 use Rattle.std.proofs.lemmas.List.{append-nil}
@@ -70,7 +70,7 @@ moved_may s f h i = by_case (has_later s) refl
 
 -- ---- a field that is moved is of a slot
 more_given : (t : Scalar) (x : WireValue) → is_more t x ≡ true → is_some (scalar_in t x) ≡ true
-more_given (schema.EnumOr first last more) (Varint n) h = given (_ && _) (n % 2 ^ 32 == more) (Some (pos (n % 2 ^ 32))) h
+more_given (schema.EnumOr first last more) (Varint n) h = given (leb first (n % 2 ^ 32) && leb (n % 2 ^ 32) last) (n % 2 ^ 32 == more) (pos (n % 2 ^ 32)) h
   where
     given : {A : Type 0} (a b : Bool) (x : A) → b ≡ true → is_some (cond (a || b) (Some x) None) ≡ true
     given true b x e = refl
@@ -163,7 +163,7 @@ settled_already s v h = let u = held_unknown s s v h in rw (none_filtered s (unk
 pub settling_again : (s : Schema) (r : Result (Value s) JsonFault) (v : Value s) → r ≡ Ok v → settled s v ≡ v → settling s r ≡ Ok v
 settling_again s r v e k = rw e (by_case (has_later s))
   where
-    by_case : (b : Bool) → cond b (Ok (settled s v)) (Ok v) ≡ Ok v
+    by_case : (b : Bool) → cond {A = Result (Value s) JsonFault} b (Ok (settled s v)) (Ok v) ≡ Ok v
     by_case true = ap (λ w. Ok w) k
     by_case false = refl
 
@@ -181,24 +181,27 @@ unknown_twice (schema.repeated n name m rest) k l v = ap (λ w. (v.0, w)) (unkno
 
 moved_beside : (s : Schema) (f : WireField) (l : List WireField) (v : Value s) → moved s f (with_unknown s l v) ≡ with_unknown s l (moved s f v)
 moved_beside schema.end f l v = refl
-moved_beside (schema.scalar n name presence t rest) f l v = by_case (is_more t f.value && f.number == n)
+moved_beside (schema.scalar n name presence t rest) f l v = by_case (is_more t f.value && f.number == n) (moved_beside rest f l v.1)
   where
-    by_case : (b : Bool) → cond b (schema.held presence (pos 0) (scalar_in t f.value), with_unknown rest l v.1) (v.0, moved rest f (with_unknown rest l v.1))
+    by_case : (b : Bool) → moved rest f (with_unknown rest l v.1) ≡ with_unknown rest l (moved rest f v.1)
+        → cond b (schema.held presence (pos 0) (scalar_in t f.value), with_unknown rest l v.1) (v.0, moved rest f (with_unknown rest l v.1))
         ≡ with_unknown (schema.scalar n name presence t rest) l (cond b (schema.held presence (pos 0) (scalar_in t f.value), v.1) (v.0, moved rest f v.1))
-    by_case true = refl
-    by_case false = ap (λ w. (v.0, w)) (moved_beside rest f l v.1)
-moved_beside (schema.text n name presence rest) f l v = by_case (is_later name && is_some (in_slot payload_in n f))
+    by_case true e = refl
+    by_case false e = ap (λ w. (v.0, w)) e
+moved_beside (schema.text n name presence rest) f l v = by_case (is_later name && is_some (in_slot payload_in n f)) (moved_beside rest f l v.1)
   where
-    by_case : (b : Bool) → cond b (schema.held presence [] (payload_in f.value), with_unknown rest l v.1) (v.0, moved rest f (with_unknown rest l v.1))
+    by_case : (b : Bool) → moved rest f (with_unknown rest l v.1) ≡ with_unknown rest l (moved rest f v.1)
+        → cond b (schema.held presence [] (payload_in f.value), with_unknown rest l v.1) (v.0, moved rest f (with_unknown rest l v.1))
         ≡ with_unknown (schema.text n name presence rest) l (cond b (schema.held presence [] (payload_in f.value), v.1) (v.0, moved rest f v.1))
-    by_case true = refl
-    by_case false = ap (λ w. (v.0, w)) (moved_beside rest f l v.1)
-moved_beside (schema.message n name presence m rest) f l v = by_case (is_later name && is_some (in_slot payload_in n f)) _
+    by_case true e = refl
+    by_case false e = ap (λ w. (v.0, w)) e
+moved_beside (schema.message n name presence m rest) f l v = by_case (is_later name && is_some (in_slot payload_in n f)) _ (moved_beside rest f l v.1)
   where
-    by_case : (b : Bool) (x : schema.Held presence (Value m)) → cond b (x, with_unknown rest l v.1) (v.0, moved rest f (with_unknown rest l v.1))
+    by_case : (b : Bool) (x : schema.Held presence (Value m)) → moved rest f (with_unknown rest l v.1) ≡ with_unknown rest l (moved rest f v.1)
+        → cond b (x, with_unknown rest l v.1) (v.0, moved rest f (with_unknown rest l v.1))
         ≡ with_unknown (schema.message n name presence m rest) l (cond b (x, v.1) (v.0, moved rest f v.1))
-    by_case true x = refl
-    by_case false x = ap (λ w. (v.0, w)) (moved_beside rest f l v.1)
+    by_case true x e = refl
+    by_case false x e = ap (λ w. (v.0, w)) e
 moved_beside (schema.repeated n name m rest) f l v = ap (λ w. (v.0, w)) (moved_beside rest f l v.1)
 
 all_beside : (s : Schema) (ms l : List WireField) (v : Value s) → all_moved s ms (with_unknown s l v) ≡ with_unknown s l (all_moved s ms v)

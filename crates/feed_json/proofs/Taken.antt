@@ -38,19 +38,19 @@ over_kept (schema.repeated n name m rest) t f old new = absurd t
 
 over_merged : (s : Schema) → AreTexts s → (f : WireField) (old new : Value s) → merged s f (over s old new) ≡ option_map (over s old) (merged s f new)
 over_merged schema.end t f old new = refl
-over_merged (schema.text n name Optional rest) t f old new = by_case (f.number == n) (payload_in f.value)
+over_merged (schema.text n name Optional rest) t f old new = by_case (f.number == n) (payload_in f.value) (over_merged rest t f old.1 new.1)
   where
     behind : (o : Option (Value rest)) → merged rest f (over rest old.1 new.1) ≡ option_map (over rest old.1) o
         → option_map (λ w. (option_or new.0 old.0, w)) (merged rest f (over rest old.1 new.1)) ≡ option_map (over (schema.text n name Optional rest) old) (option_map (λ w. (new.0, w)) o)
     behind None e = rw e refl
     behind (Some w) e = rw e refl
 
-    by_case : (b : Bool) (o : Option (List ℕ))
+    by_case : (b : Bool) (o : Option (List ℕ)) → merged rest f (over rest old.1 new.1) ≡ option_map (over rest old.1) (merged rest f new.1)
         → cond b (option_map (λ c. (c, over rest old.1 new.1)) (option_map (λ p. Some p) o)) (option_map (λ w. (option_or new.0 old.0, w)) (merged rest f (over rest old.1 new.1)))
         ≡ option_map (over (schema.text n name Optional rest) old) (cond b (option_map (λ c. (c, new.1)) (option_map (λ p. Some p) o)) (option_map (λ w. (new.0, w)) (merged rest f new.1)))
-    by_case true None = refl
-    by_case true (Some p) = refl
-    by_case false o = behind (merged rest f new.1) (over_merged rest t f old.1 new.1)
+    by_case true None e = refl
+    by_case true (Some p) e = refl
+    by_case false o e = behind (merged rest f new.1) e
 over_merged (schema.text n name (Needed which) rest) t f old new = absurd t
 over_merged (schema.scalar n name presence k rest) t f old new = absurd t
 over_merged (schema.message n name presence m rest) t f old new = absurd t

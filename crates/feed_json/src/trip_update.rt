@@ -25,26 +25,41 @@ use feed_codec::{
     check_stop_time_properties, check_trip_properties, decode_stop_time_properties,
     decode_trip_properties,
 };
-use feed_values::{Items, Slots, StopTimeEvent, StopTimeUpdate, TripUpdate, Unknown, UnknownValue};
+use feed_values::{
+    Blank, Items, Slots, StopTimeEvent, StopTimeUpdate, TripDescriptor, TripUpdate, Unknown,
+    UnknownValue,
+};
 use serde_json::{Map, Value};
 use std::alloc::{AllocError, Global};
 use std::mem;
 
-/// The update of a trip as its keys say, with all items of `unknown`.
-fn update_slots(alloc: Global, value: &Value) -> Result<TripUpdate, JsonFault>
-    ensures read { Reads trip_update_value (slots_of trip_update trip_update (view value.now)) result }
-    ensures holds { IfOk result (λ message. Holds trip_update trip_update (with_unknown trip_update [] (trip_update_value message))) }
-    ensures items { IfOk result (λ message. AllByRecursion (IsItem trip_update) (map unknown_field message.unknown)) }
+/// An update of which nothing was read.
+fn empty(alloc: Global) -> TripUpdate {
+    TripUpdate {
+        trip: TripDescriptor::blank(alloc),
+        stop_time_update: Items::new(alloc),
+        vehicle: None,
+        timestamp: None,
+        delay: None,
+        trip_properties: None,
+        unknown: Items::new(alloc),
+    }
+}
+
+/// Reads each slot to where it stands, with all items of `unknown`, so that nothing is owned where one has a fault.
+fn fill(alloc: Global, value: &Value, message: &mut TripUpdate) -> Result<(), JsonFault>
+    ensures read { Reads (λ _. trip_update_value message.new) (slots_of trip_update trip_update (view value.now)) result }
+    ensures holds { IfOk result (λ _. Holds trip_update trip_update (with_unknown trip_update [] (trip_update_value message.new))) }
+    ensures items { IfOk result (λ _. AllByRecursion (IsItem trip_update) (map unknown_field message.new.unknown)) }
 {
-    Ok(TripUpdate {
-        trip: needed_message(alloc, value, "trip")?,
-        stop_time_update: repeated(alloc, value, "stop_time_update")?,
-        vehicle: optional_message(alloc, value, "vehicle")?,
-        timestamp: optional_u64(alloc, value, "timestamp")?,
-        delay: optional_i32(alloc, value, "delay")?,
-        trip_properties: optional_message(alloc, value, "trip_properties")?,
-        unknown: items_at::<TripUpdate>(alloc, value)?,
-    })
+    message.trip = needed_message(alloc, value, "trip")?;
+    message.stop_time_update = repeated(alloc, value, "stop_time_update")?;
+    message.vehicle = optional_message(alloc, value, "vehicle")?;
+    message.timestamp = optional_u64(alloc, value, "timestamp")?;
+    message.delay = optional_i32(alloc, value, "delay")?;
+    message.trip_properties = optional_message(alloc, value, "trip_properties")?;
+    message.unknown = items_at::<TripUpdate>(alloc, value)?;
+    Ok(())
 }
 
 impl Later for TripUpdate {
@@ -101,8 +116,9 @@ impl Form for TripUpdate {
     }
 
     fn read(alloc: Global, value: &Value) -> Result<TripUpdate, JsonFault> {
-        let update = update_slots(alloc, value)?;
-        Ok(settle(alloc, update)?)
+        let mut message = Box::new(alloc, empty(alloc)).map_err(AllocError::from)?;
+        fill(alloc, value, &mut message)?;
+        Ok(settle(alloc, Box::into_inner(message))?)
     }
 
     fn put(&self, alloc: Global, members: &mut Map<String, Value>) -> Result<(), AllocError> {
