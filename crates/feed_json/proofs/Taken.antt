@@ -1,5 +1,5 @@
 -- A field that is moved takes effect as it does where a snapshot's bytes have it.
-use Rattle.std.proofs.Common.{◌≡◌, ◌==◌, ℕ, ◌%◌, ◌^◌, ℤ, pos, Bool, true, false, cond, ◌&&◌, ◌||◌, List, [], ◌∷◌, ◌++◌, Option, Some, None, refl, sym, ap, subst, ◌∙◌, append_assoc, option_map, rules}
+use Rattle.std.proofs.Common.{◌≡◌, ◌==◌, ℕ, ◌%◌, ◌^◌, Bool, true, false, cond, ◌&&◌, ◌||◌, List, [], ◌∷◌, Option, Some, None, refl, sym, ap, subst, ◌∙◌, append_assoc, option_map, rules}
 use Rattle.std.specs.Option.{is_some, option_or, unwrap_or}
 use Rattle.std.specs.Str.{IsUtf8, is_utf8}
 use Rattle.std.proofs.lemmas.Bool.{eqb-true}
@@ -12,7 +12,7 @@ use Rattle.feed_values.specs.Messages.{feed_header, trip_descriptor, trip_update
 use Rattle.feed_values.specs.Meaning.{fields, meaning, payload_in, option_case}
 use Rattle.feed_codec.specs.Merging.{kept, taken_in, merged, with_field, with_fields}
 use Rattle.feed_codec.proofs.Meanings.{taken_all}
-use Rattle.feed_json.specs.Later.{is_moved, given_over, over, moved}
+use Rattle.feed_json.specs.Later.{is_moved, over, moved}
 
 -- ---- messages of texts that may be there
 abbrev pub AreTexts : Schema → Type 0

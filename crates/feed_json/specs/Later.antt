@@ -1,6 +1,6 @@
 -- Fields of slots that the reference got later. JSON that was written before it had them holds such a field among `unknown`: it is
 -- moved to its slot. (This profile's.)
-use Rattle.std.specs.Prelude.{◌≡◌, ◌%◌, ◌^◌, ◌==◌, ℕ, ℤ, pos, Bool, true, false, not, ◌&&◌, ◌||◌, List, [], ◌∷◌, ◌++◌, Option, Some, None, Result, Ok, Err, if◌then◌else◌}
+use Rattle.std.specs.Prelude.{◌≡◌, ◌%◌, ◌^◌, ◌==◌, ℕ, ℤ, pos, Bool, true, false, not, ◌&&◌, ◌||◌, List, [], ◌∷◌, ◌++◌, if◌then◌else◌}
 use Rattle.std.specs.Option.{is_some, is_none, option_map, option_or, unwrap_or}
 use Rattle.std.specs.List.{filter}
 use Rattle.std.specs.Str.{is_utf8}
