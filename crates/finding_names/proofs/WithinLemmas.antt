@@ -14,7 +14,8 @@ use Rattle.finding_names.specs.declared.ask_name.AskName.TheVariants as name
 use Rattle.finding_names.specs.Asks.{Keys, ask_of, feed_and_text, kind_and_text, kind_and_texts, numbered, of_feed, only, only_kind, only_path, text_and_number, two_texts, without_keys}
 use Rattle.finding_names.specs.Laws.{IsAskWithin, IsPathWithin}
 use Rattle.finding_names.specs.Numbers.{u8_named, u32_named}
-use Rattle.finding_names.specs.Paths.{after_opening, all_slots, first_given, item_path, item_slot, path_named, plain_path, plain_slot}
+use Rattle.feed_values.specs.SlotNames.{all_slots}
+use Rattle.finding_names.specs.Paths.{after_opening, first_given, item_path, item_slot, path_named, plain_path, plain_slot}
 
 -- ---- of what is there
 module _ {A B : Type 0} (P : B → Type 0) where

@@ -62,6 +62,16 @@ row_is a b h = exact_rows a b (equal (row_cmp a b) (same-row a b ∙ h))
 pub has-put : (u : List PairRow) (r x : PairRow) → has_row (insert_key row_cmp u r) x ≡ (same_row x r || has_row u x)
 has-put u r x = any-insert rows_total exact_rows (same_row x) r u
 
+swapped : (a b : Bool) → (a || b) ≡ (b || a)
+swapped true true = refl
+swapped true false = refl
+swapped false true = refl
+swapped false false = refl
+
+pub has_more : (u v : List PairRow) (row held x : PairRow) → v ≡ insert_key row_cmp u row → row ≡ held → has_row v x ≡ (has_row u x || same_row x held)
+has_more u v row held x p q =
+    ap (λ w. has_row w x) p ∙ has-put u row x ∙ ap (λ r. same_row x r || has_row u x) q ∙ swapped (same_row x held) (has_row u x)
+
 module _ {K : Type 0} {R : K → K → Ordering} (o : IsTotalOrder R) (k : K) where
   not-less : (x : K) → R k x ≡ Less → is_at (R k) x ≡ false
   not-less x h = ap is_eq h

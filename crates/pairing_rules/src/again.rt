@@ -3,14 +3,30 @@ ghost use Rattle.std.specs.Prelude.{◌≡◌, ◌||◌, IfOk};
 ghost use Rattle.std.specs.List.{list_any};
 ghost use Rattle.rule_table.specs.Pairs as pairs;
 ghost use Rattle.rule_table.specs.Pairs.{has_row, same_row};
+ghost use Rattle.pairing_rules.specs.Rows.{held_row};
 ghost use Rattle.pairing_rules.specs.Seats.{row_at};
 
 use crate::held::Held;
 use crate::pair_index::PairIndex;
 use crate::seat::Seat;
+use rule_table::Kind;
 use std::alloc::{AllocError, Global};
 use std::collections::BTreeMap;
 use std::rc::Rc;
+
+/// Puts a copy of a row into an index.
+fn put_copy(
+    alloc: Global,
+    index: PairIndex,
+    kind: Kind,
+    held: &Held,
+) -> Result<PairIndex, AllocError>
+    ensures { IfOk result (λ next. (r : pairs.PairRow) → has_row next r ≡ (has_row index r || same_row r (held_row kind held.now))) }
+{
+    let row = held.row(alloc, kind)?;
+    let next = index.put(row)?;
+    Ok(next)
+}
 
 /// Puts rows into an index, each copied.
 pub(crate) fn put_rows(
@@ -22,8 +38,7 @@ pub(crate) fn put_rows(
 {
     let mut index = index;
     for (seat, held) in seats {
-        let row = held.row(alloc, seat.kind)?;
-        index = index.put(row)?;
+        index = put_copy(alloc, index, seat.kind, held)?;
     }
     Ok(index)
 }
