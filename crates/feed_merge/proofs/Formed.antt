@@ -82,7 +82,7 @@ greatest_formed vs fit = at (greatest_stamp vs) refl
 
 -- ---- the union
 header_formed : (stamp : Option ℤ) → StampFits stamp → IsWellFormed feed_header (union_header stamp)
-header_formed stamp fit = (IsUtf8-from_ascii (codes "2.0") version_ascii, ((omega arith, omega arith, omega arith), (fit, tt)))
+header_formed stamp fit = (IsUtf8-from_ascii (codes "2.0") version_ascii, ((omega arith, omega arith, omega arith), (fit, (tt, tt))))
 
 pub headed_formed : (stamp : Option ℤ) (es : List (Value entity)) → StampFits stamp → AllFormed es → IsWellFormedFeed (headed stamp es)
 headed_formed stamp es fit all = record { message = (header_formed stamp fit, (all, tt)); full = refl }
