@@ -1,5 +1,5 @@
 -- The snapshots are well formed: every text is ASCII, and every number is in the range of its field.
-use Rattle.std.proofs.Common.{◌≡◌, ℕ, zero, suc, ◌+◌, ◌*◌, ◌<◌, ◌^◌, ◌==◌, true, false, if◌then◌else◌, List, [], ◌∷◌, length, map, codes, decimal, pos, refl, arith}
+use Rattle.std.proofs.Common.{◌≡◌, ℕ, zero, suc, ◌+◌, ◌*◌, ◌<◌, ◌^◌, ◌==◌, inl, true, false, if◌then◌else◌, List, [], ◌∷◌, length, map, codes, decimal, pos, refl, arith}
 use Rattle.std.specs.List.{enumerate_from, AllByRecursion}
 use Rattle.std.specs.Prelude.{FitsSigned}
 use Rattle.std.specs.Int.{w32}
@@ -39,7 +39,7 @@ vehicle_letter W = letter_ascii 119 (omega arith)
 -- ---- messages
 trip_formed : (k : ℕ) → k < 2 ^ 64 → IsWellFormed trip_descriptor (trip_descriptor_value (trip_of k))
 trip_formed k small =
-    (numbered_text (codes "T") k (letter_ascii 84 (omega arith)) small, (tt, (tt, ((omega arith, omega arith, omega arith), (tt, (tt, tt))))))
+    (numbered_text (codes "T") k (letter_ascii 84 (omega arith)) small, (tt, (tt, ((inl (omega arith, omega arith), omega arith), (tt, (tt, tt))))))
 
 vehicle_formed : (k : ℕ) (letter : Letter) → k < 2 ^ 64 → IsWellFormed vehicle_descriptor (vehicle_descriptor_value (vehicle_of k letter))
 vehicle_formed k letter small =
@@ -50,11 +50,11 @@ delay_fits delay small = omega (arith, ints)
 
 stop_formed : (delay : ℕ) → delay < 2 ^ 31 → IsWellFormed stop_time_update (stop_time_update_value (stop_update delay))
 stop_formed delay small =
-    (omega arith, ((delay_fits delay small, (tt, (tt, tt))), (tt, (tt, ((omega arith, omega arith, omega arith), tt)))))
+    (omega arith, ((delay_fits delay small, (tt, (tt, tt))), (tt, (tt, ((omega arith, omega arith, omega arith), (tt, tt))))))
 
 update_formed : (k : ℕ) (e : EntityState) → k < 2 ^ 64 → e.number < 2 ^ 31 → IsWellFormed entity (entity_value (update_entity k e))
 update_formed k e small low =
-    (numbered_text (codes "u") k (letter_ascii 117 (omega arith)) small, (tt, ((trip_formed k small, ((stop_formed e.number low, tt), (vehicle_formed k e.letter small, (omega arith, (tt, tt))))), (tt, (tt, tt)))))
+    (numbered_text (codes "u") k (letter_ascii 117 (omega arith)) small, (tt, ((trip_formed k small, ((stop_formed e.number low, tt), (vehicle_formed k e.letter small, (omega arith, (tt, (tt, tt)))))), (tt, (tt, tt)))))
 
 position_formed : (k : ℕ) (e : EntityState) → k < 2 ^ 64 → e.number < 2 ^ 31 → IsWellFormed entity (entity_value (position_entity k e))
 position_formed k e small low =
@@ -75,7 +75,7 @@ entities_formed feed k (e ∷ states) small low =
 
 header_formed : (number : ℕ) → number < 40 → IsWellFormed feed_header (feed_header_value (header_of number))
 header_formed number few =
-    (IsUtf8-from_ascii (codes "2.0") version_ascii, ((omega arith, omega arith, omega arith), (omega arith, tt)))
+    (IsUtf8-from_ascii (codes "2.0") version_ascii, ((omega arith, omega arith, omega arith), (omega arith, (tt, tt))))
 
 -- so the states of a feed are few and low
 pub record IsLow (states : List EntityState) : Type 0 where
