@@ -1,47 +1,19 @@
 //! The pairing rows of a snapshot.
-ghost use Rattle.std.specs.Prelude.{◌≡◌, IfOk, Option, option_copied};
+ghost use Rattle.std.specs.Prelude.{◌≡◌, IfOk, Option};
 ghost use Rattle.std.specs.Option.{option_map};
 ghost use Rattle.feed_values.specs.Views.{trip_update_value, vehicle_position_value};
 ghost use Rattle.timetable.specs.Timetables.{Tables};
 ghost use Rattle.rule_table.specs.Answers.{Heads};
-ghost use Rattle.rule_table.specs.Pairs.{update_rows, vehicle_rows, row_with};
-ghost use Rattle.rule_table.specs.Ids.{ids_value};
-ghost use Rattle.pairing_rules.specs.Rows.{pair_row};
+ghost use Rattle.rule_table.specs.Pairs.{update_rows, vehicle_rows};
 ghost use Rattle.judging.specs.Seats.{Rising, seat_values};
 ghost use Rattle.pairing_rules.specs.ByKind.{AreAlike};
 ghost use Rattle.judging.specs.Judged.{found_at_seats, put_rows, seat_rows, update_rows_of, vehicle_rows_of};
 
-use feed_values::{Apart, Entity, Text, TripUpdate, VehiclePosition};
+use feed_values::{Apart, Entity, TripUpdate, VehiclePosition};
 use pairing_rules::{PairIndex, PairRow};
-use rule_table::{EntityKey, Ids, Kind, ids_of_update, ids_of_vehicle};
+use rule_table::{EntityKey, Kind, ids_of_update, ids_of_vehicle};
 use std::alloc::{AllocError, Global};
 use std::collections::BTreeMap;
-
-fn copied(alloc: Global, id: Option<&Text>) -> Result<Option<Text>, AllocError>
-    ensures { IfOk result (λ copy. copy ≡ option_copied id.entry) }
-{
-    match id {
-        None => Ok(None),
-        Some(id) => Ok(Some(id.clone(alloc)?)),
-    }
-}
-
-/// The row of a message that gives these ids.
-fn row_of(alloc: Global, kind: Kind, key: &EntityKey, ids: Ids<'_>) -> Result<PairRow, AllocError>
-    ensures { IfOk result (λ row. pair_row row ≡ row_with kind key.now (ids_value ids.entry)) }
-{
-    let id = key.id.clone(alloc)?;
-    let trip = copied(alloc, ids.trip)?;
-    let vehicle = copied(alloc, ids.vehicle)?;
-    Ok(PairRow {
-        kind,
-        feed: key.feed,
-        id,
-        occurrence: key.occurrence,
-        trip,
-        vehicle,
-    })
-}
 
 /// Puts in the row of a trip update, where there is one.
 fn add_update(
@@ -55,7 +27,7 @@ fn add_update(
     match update {
         None => Ok(index),
         Some(update) => {
-            let row = row_of(alloc, Kind::TripUpdate, key, ids_of_update(update))?;
+            let row = PairRow::of(alloc, Kind::TripUpdate, key, ids_of_update(update))?;
             let next = index.add(row)?;
             Ok(next)
         }
@@ -74,7 +46,7 @@ fn add_vehicle(
     match position {
         None => Ok(index),
         Some(position) => {
-            let row = row_of(alloc, Kind::Vehicle, key, ids_of_vehicle(position))?;
+            let row = PairRow::of(alloc, Kind::Vehicle, key, ids_of_vehicle(position))?;
             let next = index.add(row)?;
             Ok(next)
         }
