@@ -1,14 +1,20 @@
 //! The keys of rows by number.
-ghost use Rattle.std.specs.Prelude.{◌≡◌, ◌<◌, ◌+◌, ◌^◌, ◌||◌, OnOk, IfSome};
+ghost use Rattle.std.specs.Prelude.{◌≡◌, ◌<◌, ◌+◌, ◌^◌, ◌&&◌, ◌||◌, OnOk, IfSome};
+ghost use Rattle.std.specs.List.{list_any};
 ghost use Rattle.std.specs.BTreeSet.{contains};
-ghost use Rattle.rule_table.specs.Order.{key_cmp};
+ghost use Rattle.rule_table.specs.Order.{key_cmp, same_key};
+ghost use Rattle.rule_table.specs.Pairs.{is_of};
 ghost use Rattle.rule_table.specs.declared.key.EntityKey.{EntityKey as Key};
+ghost use Rattle.pairing_rules.specs.Seats.{row_at};
 ghost use Rattle.pairing_rules.specs.Slots.{seen, has_key, has_key_at, has_given_key};
 
 use crate::entry::Entry;
+use crate::held::Held;
+use crate::seat::Seat;
 use rule_table::{EntityKey, Kind};
 use std::alloc::{AllocError, Global};
-use std::collections::BTreeSet;
+use std::collections::{BTreeMap, BTreeSet};
+use std::rc::Rc;
 
 /// Puts the key of an entry's row into a set.
 fn put_key(alloc: Global, keys: &mut BTreeSet<EntityKey>, entry: &Entry) -> Result<(), AllocError>
@@ -55,4 +61,21 @@ pub(crate) fn put_given_keys(
         Some(number) => put_number(alloc, keys, entries, number),
         None => Ok(()),
     }
+}
+
+/// Puts the keys of the rows of a kind into a set.
+pub(crate) fn put_kind_keys(
+    alloc: Global,
+    keys: &mut BTreeSet<EntityKey>,
+    seats: &BTreeMap<Seat, Rc<Held>>,
+    kind: Kind,
+) -> Result<(), AllocError>
+    ensures { OnOk result ((key : Key) → contains key_cmp keys.new key ≡ (contains key_cmp keys.old key || list_any (λ e. is_of kind (row_at e) && same_key key (row_at e).key) seats.now.entries)) }
+{
+    for (seat, row) in seats {
+        if seat.kind == kind {
+            keys.insert(row.key.clone(alloc)?)?;
+        }
+    }
+    Ok(())
 }

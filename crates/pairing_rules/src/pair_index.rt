@@ -13,7 +13,7 @@ ghost use Rattle.pairing_rules.specs.Rows.{pair_row, row_cmp};
 use crate::entry::Entry;
 use crate::held::Held;
 use crate::names::Names;
-use crate::naming::put_given_keys;
+use crate::naming::{put_given_keys, put_kind_keys};
 use crate::row::PairRow;
 use crate::rows::{any_of_kind, any_of_pair};
 use crate::seat::Seat;
@@ -132,6 +132,22 @@ impl PairIndex {
         let found = keys_in_order(alloc, keys)?;
         Ok(found)
     }
+
+    /// The keys of the rows of a kind, each once, in order.
+    pub fn keys_of(&self, alloc: Global, kind: Kind) -> Result<Items<EntityKey>, AllocError>
+        ensures ordered { IfOk result (λ keys. IsStrictlySortedBy key_cmp keys) }
+        ensures keys { IfOk result (λ keys. (key : Key) → list_any (same_key key) keys ≡ list_any (λ r. pairs.is_of kind r && same_key key r.key) self.now) }
+    {
+        let mut keys = BTreeSet::new(alloc);
+        put_kind_keys(alloc, &mut keys, &self.seats, kind)?;
+        let found = keys_in_order(alloc, keys)?;
+        Ok(found)
+    }
+
+    /// Its rows stand in their order, each once. It does nothing.
+    pub fn stands_in_order(&self)
+        ensures { IsStrictlySortedBy row_cmp self.now }
+    {}
 }
 
 impl PairView for PairIndex {

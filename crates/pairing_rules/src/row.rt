@@ -1,6 +1,12 @@
 //! Pairing rows.
+ghost use Rattle.std.specs.Prelude.{◌≡◌, IfOk, option_copied};
+ghost use Rattle.rule_table.specs.Pairs.{row_with};
+ghost use Rattle.rule_table.specs.Ids.{ids_value};
+ghost use Rattle.pairing_rules.specs.Rows.{pair_row};
+
 use feed_values::Text;
-use rule_table::Kind;
+use rule_table::{EntityKey, Ids, Kind};
+use std::alloc::{AllocError, Global};
 
 /// The ids that a trip update or a vehicle position of an entity gives. Rows are ordered by kind, then feed, id and occurrence.
 #[derive(Debug, PartialEq, Eq, PartialOrd, Ord, Drop)]
@@ -14,4 +20,37 @@ pub struct PairRow {
     pub occurrence: u32,
     pub trip: Option<Text>,
     pub vehicle: Option<Text>,
+}
+
+fn copied(alloc: Global, id: Option<&Text>) -> Result<Option<Text>, AllocError>
+    ensures { IfOk result (λ copy. copy ≡ option_copied id.entry) }
+{
+    match id {
+        None => Ok(None),
+        Some(id) => Ok(Some(id.clone(alloc)?)),
+    }
+}
+
+impl PairRow {
+    /// The row of a message of an entity that gives these ids.
+    pub fn of(
+        alloc: Global,
+        kind: Kind,
+        key: &EntityKey,
+        ids: Ids<'_>,
+    ) -> Result<PairRow, AllocError>
+        ensures { IfOk result (λ row. pair_row row ≡ row_with kind key.now (ids_value ids.entry)) }
+    {
+        let id = key.id.clone(alloc)?;
+        let trip = copied(alloc, ids.trip)?;
+        let vehicle = copied(alloc, ids.vehicle)?;
+        Ok(PairRow {
+            kind,
+            feed: key.feed,
+            id,
+            occurrence: key.occurrence,
+            trip,
+            vehicle,
+        })
+    }
 }
