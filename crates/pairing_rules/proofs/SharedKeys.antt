@@ -53,7 +53,7 @@ number-range n e =
     ap (λ b. b && not (is_le (entry_cmp (low (n + 1) TripUpdate 0) e))) (number-le n e) ∙ ap (λ b. is_le (nat_cmp n e.number) && not b) (number-le (n + 1) e)
     ∙ next-number n e.number ∙ turned n e.number
 
-any-map : {A B : Type 0} (f : A → B) (g : B → Bool) (xs : List A) → list_any (λ x. g (f x)) xs ≡ list_any g (map f xs)
+pub any-map : {A B : Type 0} (f : A → B) (g : B → Bool) (xs : List A) → list_any (λ x. g (f x)) xs ≡ list_any g (map f xs)
 any-map f g [] = refl
 any-map f g (x ∷ xs) = ap (λ b. g (f x) || b) (any-map f g xs)
 

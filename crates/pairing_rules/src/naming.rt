@@ -5,6 +5,7 @@ ghost use Rattle.std.specs.BTreeSet.{contains};
 ghost use Rattle.rule_table.specs.Order.{key_cmp, same_key};
 ghost use Rattle.rule_table.specs.Pairs.{is_of};
 ghost use Rattle.rule_table.specs.declared.key.EntityKey.{EntityKey as Key};
+ghost use Rattle.pairing_rules.specs.Rows.{held_row};
 ghost use Rattle.pairing_rules.specs.Seats.{row_at};
 ghost use Rattle.pairing_rules.specs.Slots.{seen, has_key, has_key_at, has_given_key};
 
@@ -63,6 +64,22 @@ pub(crate) fn put_given_keys(
     }
 }
 
+/// Puts the key of a row into a set, where the row is of a kind.
+fn put_key_of(
+    alloc: Global,
+    keys: &mut BTreeSet<EntityKey>,
+    seat: &Seat,
+    row: &Held,
+    kind: Kind,
+) -> Result<(), AllocError>
+    ensures { OnOk result ((key : Key) → contains key_cmp keys.new key ≡ (contains key_cmp keys.old key || (is_of kind (held_row seat.now.kind row.now) && same_key key row.now.key))) }
+{
+    if seat.kind == kind {
+        keys.insert(row.key.clone(alloc)?)?;
+    }
+    Ok(())
+}
+
 /// Puts the keys of the rows of a kind into a set.
 pub(crate) fn put_kind_keys(
     alloc: Global,
@@ -73,9 +90,7 @@ pub(crate) fn put_kind_keys(
     ensures { OnOk result ((key : Key) → contains key_cmp keys.new key ≡ (contains key_cmp keys.old key || list_any (λ e. is_of kind (row_at e) && same_key key (row_at e).key) seats.now.entries)) }
 {
     for (seat, row) in seats {
-        if seat.kind == kind {
-            keys.insert(row.key.clone(alloc)?)?;
-        }
+        put_key_of(alloc, keys, seat, row, kind)?;
     }
     Ok(())
 }

@@ -147,7 +147,9 @@ impl PairIndex {
     /// Its rows stand in their order, each once. It does nothing.
     pub fn stands_in_order(&self)
         ensures { IsStrictlySortedBy row_cmp self.now }
-    {}
+    {
+        let _ = &self.alloc;
+    }
 }
 
 impl PairView for PairIndex {
