@@ -8,3 +8,4 @@ pub mod Seated
 pub mod Ends
 pub mod Asked
 pub mod SharedKeys
+pub mod Members

@@ -1,11 +1,13 @@
 -- The ids that rows which came or went give.
-use Rattle.std.specs.Prelude.{◌≡◌, ℕ, Bool, true, false, not, ◌&&◌, ◌||◌, List, Option, Some, None}
+use Rattle.std.specs.Prelude.{◌≡◌, ℕ, Bool, true, false, not, ◌&&◌, ◌||◌, List, Option, Some, None, option_and_then}
 use Rattle.std.specs.List.{list_any}
 use Rattle.std.specs.Ordering.{nat_cmp}
 use Rattle.std.specs.Cmp.Lexicographic.{slice_cmp}
 use Rattle.std.specs.BTreeSet.{BTreeSet, contains}
+use Rattle.feed_values.specs.Schema.{Value}
+use Rattle.feed_values.specs.Messages.{entity}
 use Rattle.rule_table.specs.Pairs.{PairRow, GivenIds, is_id}
-use Rattle.rule_table.specs.Ids.{same_ids}
+use Rattle.rule_table.specs.Ids.{same_ids, update_ids, vehicle_ids}
 use Rattle.row_changes.specs.declared.ids.ChangedIds.{ChangedIds}
 
 abbrev pub has_text : BTreeSet (List ℕ) → List ℕ → Bool
@@ -39,3 +41,10 @@ new_trip q (Some ids) other = not (same_ids ids other) && is_id q ids.trip
 abbrev pub new_vehicle : List ℕ → Option GivenIds → Option GivenIds → Bool
 new_vehicle q None other = false
 new_vehicle q (Some ids) other = not (same_ids ids other) && is_id q ids.vehicle
+
+-- whether an entity that may be there does
+abbrev pub given_trip : List ℕ → Option (Value entity) → Option (Value entity) → Bool
+given_trip q e other = new_trip q (option_and_then update_ids e) (option_and_then update_ids other) || new_trip q (option_and_then vehicle_ids e) (option_and_then vehicle_ids other)
+
+abbrev pub given_vehicle : List ℕ → Option (Value entity) → Option (Value entity) → Bool
+given_vehicle q e other = new_vehicle q (option_and_then update_ids e) (option_and_then update_ids other) || new_vehicle q (option_and_then vehicle_ids e) (option_and_then vehicle_ids other)

@@ -1,10 +1,10 @@
 //! The ids of pairing rows that came or went.
-ghost use Rattle.std.specs.Prelude.{◌≡◌, ◌||◌, ℕ, List, false, option_map, option_copied, OnOk};
+ghost use Rattle.std.specs.Prelude.{◌≡◌, ◌||◌, ℕ, List, false, option_map, option_and_then, option_copied, OnOk};
 ghost use Rattle.feed_values.specs.Views.{entity_value};
 ghost use Rattle.rule_table.specs.Pairs.{is_id};
-ghost use Rattle.rule_table.specs.Ids.{ids_value};
+ghost use Rattle.rule_table.specs.Ids.{ids_value, update_ids, vehicle_ids};
 ghost use Rattle.rule_table.specs.declared.key.EntityKey.{EntityKey as Key};
-ghost use Rattle.row_changes.specs.Ids.{has_text, new_trip, new_vehicle};
+ghost use Rattle.row_changes.specs.Ids.{has_text, new_trip, new_vehicle, given_trip, given_vehicle};
 ghost use Rattle.row_changes.specs.Updated.{AreNoted};
 
 use feed_values::{Entity, Text};
@@ -32,8 +32,10 @@ fn put_id(alloc: Global, ids: &mut BTreeSet<Text>, id: Option<&Text>) -> Result<
     }
 }
 
-/// The ids of an entity's trip update, where both are there.
-pub(crate) fn given_update(entity: Option<&Entity>) -> Option<Ids<'_>> {
+/// The ids of the trip update of an entity, where both are there.
+pub(crate) fn given_update(entity: Option<&Entity>) -> Option<Ids<'_>>
+    ensures { option_map ids_value result ≡ option_and_then update_ids (option_map entity_value (option_copied entity.entry)) }
+{
     match entity {
         None => None,
         Some(entity) => update_ids(entity),
@@ -41,7 +43,9 @@ pub(crate) fn given_update(entity: Option<&Entity>) -> Option<Ids<'_>> {
 }
 
 /// The ids of its vehicle position.
-pub(crate) fn given_vehicle(entity: Option<&Entity>) -> Option<Ids<'_>> {
+pub(crate) fn given_vehicle(entity: Option<&Entity>) -> Option<Ids<'_>>
+    ensures { option_map ids_value result ≡ option_and_then vehicle_ids (option_map entity_value (option_copied entity.entry)) }
+{
     match entity {
         None => None,
         Some(entity) => vehicle_ids(entity),
@@ -83,6 +87,22 @@ impl ChangedIds {
         }
     }
 
+    /// Puts in the ids that an entity gives and another doesn't, each where it is there.
+    fn put_new(
+        &mut self,
+        alloc: Global,
+        entity: Option<&Entity>,
+        other: Option<&Entity>,
+    ) -> Result<(), AllocError>
+        ensures trips { OnOk result ((q : List ℕ) → has_text self.new.trips q ≡ (has_text self.old.trips q || given_trip q (option_map entity_value (option_copied entity.entry)) (option_map entity_value (option_copied other.entry)))) }
+        ensures vehicles { OnOk result ((q : List ℕ) → has_text self.new.vehicles q ≡ (has_text self.old.vehicles q || given_vehicle q (option_map entity_value (option_copied entity.entry)) (option_map entity_value (option_copied other.entry)))) }
+    {
+        let (update, other_update) = (given_update(entity), given_update(other));
+        self.put(alloc, update, other_update)?;
+        let (vehicle, other_vehicle) = (given_vehicle(entity), given_vehicle(other));
+        self.put(alloc, vehicle, other_vehicle)
+    }
+
     /// Puts in the ids of the rows that came or went where an entity was one and is another.
     pub(crate) fn note(
         &mut self,
@@ -92,10 +112,7 @@ impl ChangedIds {
     ) -> Result<(), AllocError>
         ensures { OnOk result ((key : Key) → AreNoted key (option_map entity_value (option_copied old.entry)) (option_map entity_value (option_copied new.entry)) self.old self.new) }
     {
-        self.put(alloc, given_update(old), given_update(new))?;
-        self.put(alloc, given_vehicle(old), given_vehicle(new))?;
-        self.put(alloc, given_update(new), given_update(old))?;
-        self.put(alloc, given_vehicle(new), given_vehicle(old))?;
-        Ok(())
+        self.put_new(alloc, new, old)?;
+        self.put_new(alloc, old, new)
     }
 }

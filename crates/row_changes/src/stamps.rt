@@ -1,10 +1,10 @@
 //! The timestamps of an entity exchanged.
-ghost use Rattle.std.specs.Prelude.{◌≡◌, ◌&&◌, ◌||◌, not, true, IfOk, OnOk, pos, option_map, option_copied, if◌then◌else◌};
+ghost use Rattle.std.specs.Prelude.{◌≡◌, ◌&&◌, ◌||◌, ℕ, not, true, IfOk, pos, option_map, option_copied, if◌then◌else◌};
 ghost use Rattle.feed_values.specs.Views.{entity_value};
 ghost use Rattle.rule_table.specs.Order.{same_key};
 ghost use Rattle.history_rules.specs.Stamps.{Stamp, holds};
-ghost use Rattle.row_changes.specs.Given.{gives_time, is_given, is_time};
-ghost use Rattle.row_changes.specs.Times.{is_at, are_given};
+ghost use Rattle.row_changes.specs.Given.{gives_time, is_given, update_time, vehicle_time};
+ghost use Rattle.row_changes.specs.Times.{are_given, is_stamp};
 
 use feed_values::Entity;
 use history_rules::StampIndex;
@@ -18,14 +18,18 @@ pub(crate) struct Times {
     vehicle: Option<u64>,
 }
 
-fn update_time(entity: &Entity) -> Option<u64> {
+fn update_time(entity: &Entity) -> Option<u64>
+    ensures { option_map pos result ≡ update_time (entity_value entity.now) }
+{
     match &entity.trip_update {
         None => None,
         Some(update) => update.timestamp,
     }
 }
 
-fn vehicle_time(entity: &Entity) -> Option<u64> {
+fn vehicle_time(entity: &Entity) -> Option<u64>
+    ensures { option_map pos result ≡ vehicle_time (entity_value entity.now) }
+{
     match &entity.vehicle {
         None => None,
         Some(vehicle) => vehicle.timestamp,
@@ -33,7 +37,9 @@ fn vehicle_time(entity: &Entity) -> Option<u64> {
 }
 
 impl Times {
-    fn of(entity: Option<&Entity>) -> Times {
+    fn of(entity: Option<&Entity>) -> Times
+        ensures { (n : ℕ) → are_given result n ≡ gives_time (option_map entity_value (option_copied entity.entry)) n }
+    {
         match entity {
             None => Times {
                 update: None,
@@ -46,16 +52,23 @@ impl Times {
         }
     }
 
-    fn has(self, time: u64) -> bool {
+    fn has(self, time: u64) -> bool
+        ensures { result ≡ are_given self time }
+    {
         self.update == Some(time) || self.vehicle == Some(time)
     }
 }
 
 /// Takes out a timestamp, unless it stays.
-fn take_time(stamps: &mut StampIndex, key: &EntityKey, time: Option<u64>, kept: Times) {
-    if let Some(time) = time {
-        if !kept.has(time) {
-            stamps.take_out(key.feed, time, key);
+fn take_time(stamps: &mut StampIndex, key: &EntityKey, time: Option<u64>, kept: Times)
+    ensures { (s : Stamp) → holds stamps.new s ≡ (not (is_stamp key.now time s && not (are_given kept s.at.stamp)) && holds stamps.old s) }
+{
+    match time {
+        None => {}
+        Some(time) => {
+            if !kept.has(time) {
+                stamps.take_out(key.feed, time, key);
+            }
         }
     }
 }
@@ -67,7 +80,9 @@ fn add_time(
     key: &EntityKey,
     time: Option<u64>,
     had: Times,
-) -> Result<StampIndex, AllocError> {
+) -> Result<StampIndex, AllocError>
+    ensures { IfOk result (λ next. (s : Stamp) → holds next s ≡ ((is_stamp key.now time s && not (are_given had s.at.stamp)) || holds stamps s)) }
+{
     match time {
         None => Ok(stamps),
         Some(time) => {
