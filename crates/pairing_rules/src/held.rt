@@ -1,10 +1,11 @@
 //! Rows as they are held.
-ghost use Rattle.std.specs.Prelude.{◌≡◌};
+ghost use Rattle.std.specs.Prelude.{◌≡◌, IfOk};
 ghost use Rattle.pairing_rules.specs.Rows.{pair_row, held_row};
 
-use crate::row::PairRow;
+use crate::row::{PairRow, copied};
 use feed_values::Text;
-use rule_table::EntityKey;
+use rule_table::{EntityKey, Kind};
+use std::alloc::{AllocError, Global};
 
 /// The texts of a row. Its kind stands where it is held.
 #[derive(PartialEq, Eq, PartialOrd, Ord, Drop)]
@@ -27,5 +28,22 @@ impl Held {
             trip: row.trip,
             vehicle: row.vehicle,
         }
+    }
+
+    /// The row, made again.
+    pub fn row(&self, alloc: Global, kind: Kind) -> Result<PairRow, AllocError>
+        ensures { IfOk result (λ row. pair_row row ≡ held_row kind self.now) }
+    {
+        let id = self.key.id.clone(alloc)?;
+        let trip = copied(alloc, self.trip.as_ref())?;
+        let vehicle = copied(alloc, self.vehicle.as_ref())?;
+        Ok(PairRow {
+            kind,
+            feed: self.key.feed,
+            id,
+            occurrence: self.key.occurrence,
+            trip,
+            vehicle,
+        })
     }
 }

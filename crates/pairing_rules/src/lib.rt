@@ -4,9 +4,10 @@
 //! `group` is the group, which `answers` answers of an entity and a list of rows (`row`). `pair_index` is the set: `names` gives texts
 //! numbers, a `seat` is a row by these numbers, `held` rows as they are held and `entry` their places in the order of a number, which
 //! `slots` keeps; `rows` finds a row by all of its numbers, `taking` takes it out, and `naming` has the keys of the rows that have a number.
-//! `laws` says which lists of rows answer alike.
+//! `again` puts rows in once more, which gives back the numbers of ids without a row. `laws` says which lists of rows answer alike.
 #![tactic(auto)]
 
+mod again;
 mod answers;
 mod entry;
 mod group;

@@ -25,6 +25,11 @@ impl Names {
         }
     }
 
+    /// How many texts have one.
+    pub fn count(&self) -> usize {
+        self.numbers.len()
+    }
+
     /// The number of a text.
     pub fn number(&self, text: &str) -> Option<u32>
         ensures { result ≡ get_by_text self.now.numbers text.now }

@@ -10,6 +10,7 @@ ghost use Rattle.rule_table.specs.declared.key.EntityKey.{EntityKey as Key};
 ghost use Rattle.rule_table.specs.Pairs as pairs;
 ghost use Rattle.pairing_rules.specs.Rows.{pair_row, row_cmp};
 
+use crate::again::put_rows;
 use crate::entry::Entry;
 use crate::held::Held;
 use crate::names::Names;
@@ -27,8 +28,9 @@ use std::marker::Model;
 use std::rc::Rc;
 
 /// A set of pairing rows, which contracts see as the list of its rows: those of trip updates and then those of vehicle
-/// positions, each by feed, id and occurrence. Ids keep their numbers when their rows are taken out: memory grows with the ids
-/// that were put in, and the 2^32nd of a sort is answered as want of memory.
+/// positions, each by feed, id and occurrence. Ids keep their numbers when their rows are taken out, until those without a row are
+/// more than the others and some: then the rows are numbered anew, so that memory grows with the rows that are there and not with the ids
+/// that were put in, and a row that is put in pays for that once.
 #[derive(Drop)]
 pub struct PairIndex {
     alloc: Global,
@@ -78,6 +80,36 @@ impl PairIndex {
 
     /// Puts a row in; one that is held is held once. After want of memory the index is gone.
     pub fn add(self, row: PairRow) -> Result<PairIndex, AllocError>
+        ensures rows { IfOk result (λ index. index ≡ insert_key row_cmp self (pair_row row)) }
+        ensures ordered { IfOk result (λ index. IsStrictlySortedBy row_cmp index) }
+    {
+        if self.is_crowded() {
+            let index = self.again()?;
+            let next = index.put(row)?;
+            return Ok(next);
+        }
+        let next = self.put(row)?;
+        Ok(next)
+    }
+
+    /// Whether ids without a row are more than the others, and more than a thousand.
+    fn is_crowded(&self) -> bool {
+        let most = self.seats.len().saturating_mul(2).saturating_add(1024);
+        self.ids.count() > most || self.trips.count() > most || self.vehicles.count() > most
+    }
+
+    /// The same rows, whose ids alone have numbers.
+    fn again(&self) -> Result<PairIndex, AllocError>
+        ensures { IfOk result (λ index. index ≡ self.now) }
+    {
+        self.stands_in_order();
+        let index = put_rows(self.alloc, PairIndex::new(self.alloc), &self.seats)?;
+        index.stands_in_order();
+        Ok(index)
+    }
+
+    /// Puts a row in, whose ids get numbers where they have none.
+    pub(crate) fn put(self, row: PairRow) -> Result<PairIndex, AllocError>
         ensures rows { IfOk result (λ index. index ≡ insert_key row_cmp self (pair_row row)) }
         ensures ordered { IfOk result (λ index. IsStrictlySortedBy row_cmp index) }
     {

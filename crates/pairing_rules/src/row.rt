@@ -22,7 +22,8 @@ pub struct PairRow {
     pub vehicle: Option<Text>,
 }
 
-fn copied(alloc: Global, id: Option<&Text>) -> Result<Option<Text>, AllocError>
+/// An id that may be given, made again.
+pub(crate) fn copied(alloc: Global, id: Option<&Text>) -> Result<Option<Text>, AllocError>
     ensures { IfOk result (λ copy. copy ≡ option_copied id.entry) }
 {
     match id {

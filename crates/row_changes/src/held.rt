@@ -43,7 +43,7 @@ impl HeldRows {
         new: Option<&Entity>,
         ids: &mut ChangedIds,
     ) -> Result<HeldRows, AllocError>
-        requires { IsHeldAt key.now (option_map entity_value (option_copied old.entry)) self }
+        requires { IsHeldAt key.now (option_map entity_value (option_copied old)) self }
         ensures updated { IfOk result (IsUpdated key.now (option_map entity_value (option_copied new.entry)) self) }
         ensures noted { OnOk result (AreNoted key.now (option_map entity_value (option_copied old.entry)) (option_map entity_value (option_copied new.entry)) ids.old ids.new) }
     {

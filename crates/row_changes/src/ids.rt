@@ -100,7 +100,8 @@ impl ChangedIds {
         let (update, other_update) = (given_update(entity), given_update(other));
         self.put(alloc, update, other_update)?;
         let (vehicle, other_vehicle) = (given_vehicle(entity), given_vehicle(other));
-        self.put(alloc, vehicle, other_vehicle)
+        self.put(alloc, vehicle, other_vehicle)?;
+        Ok(())
     }
 
     /// Puts in the ids of the rows that came or went where an entity was one and is another.
@@ -113,6 +114,7 @@ impl ChangedIds {
         ensures { OnOk result ((key : Key) → AreNoted key (option_map entity_value (option_copied old.entry)) (option_map entity_value (option_copied new.entry)) self.old self.new) }
     {
         self.put_new(alloc, new, old)?;
-        self.put_new(alloc, old, new)
+        self.put_new(alloc, old, new)?;
+        Ok(())
     }
 }

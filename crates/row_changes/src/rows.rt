@@ -38,6 +38,7 @@ fn take_row(
     match ids {
         Some(ids) => {
             let row = PairRow::of(alloc, kind, key, ids)?;
+            index.stands_in_order();
             index.take_out(&row);
             Ok(())
         }
@@ -74,7 +75,7 @@ fn update_row(
     old: Option<Ids<'_>>,
     new: Option<Ids<'_>>,
 ) -> Result<PairIndex, AllocError>
-    requires { (r : pairs.PairRow) → (same_key key.now r.key && same_kind r.kind kind) ≡ true → has_row index r ≡ has_row (id_rows kind key.now (option_map ids_value old.entry)) r }
+    requires { (r : pairs.PairRow) → (same_key key.now r.key && same_kind r.kind kind) ≡ true → has_row index r ≡ has_row (id_rows kind key.now (option_map ids_value old)) r }
     ensures { IfOk result (λ next. (r : pairs.PairRow) → has_row next r
         ≡ (if same_key key.now r.key && same_kind r.kind kind then has_row (id_rows kind key.now (option_map ids_value new.entry)) r else has_row index r)) }
 {
@@ -95,7 +96,7 @@ pub(crate) fn update_rows(
     old: Option<&Entity>,
     new: Option<&Entity>,
 ) -> Result<PairIndex, AllocError>
-    requires { (r : pairs.PairRow) → same_key key.now r.key ≡ true → has_row index r ≡ has_row (rows_under key.now (option_map entity_value (option_copied old.entry))) r }
+    requires { (r : pairs.PairRow) → same_key key.now r.key ≡ true → has_row index r ≡ has_row (rows_under key.now (option_map entity_value (option_copied old))) r }
     ensures { IfOk result (λ next. (r : pairs.PairRow) → has_row next r
         ≡ (if same_key key.now r.key then has_row (rows_under key.now (option_map entity_value (option_copied new.entry))) r else has_row index r)) }
 {

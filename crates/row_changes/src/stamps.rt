@@ -103,7 +103,7 @@ pub(crate) fn update_stamps(
     old: Option<&Entity>,
     new: Option<&Entity>,
 ) -> Result<StampIndex, AllocError>
-    requires { (s : Stamp) → same_key key.now s.key ≡ true → holds stamps s ≡ is_given (option_map entity_value (option_copied old.entry)) s }
+    requires { (s : Stamp) → same_key key.now s.key ≡ true → holds stamps s ≡ is_given (option_map entity_value (option_copied old)) s }
     ensures { IfOk result (λ next. (s : Stamp) → holds next s
         ≡ (if same_key key.now s.key then is_given (option_map entity_value (option_copied new.entry)) s else holds stamps s)) }
 {

@@ -34,12 +34,13 @@ fn put_keys(keys: &mut BTreeSet<EntityKey>, more: Items<EntityKey>) -> Result<()
 fn trip_alone(alloc: Global, trip: &Text) -> Result<PairRow, AllocError>
     ensures { IfOk result (λ row. (q : Asked) → shares (pair_row row) q ≡ is_id trip.now q.trip) }
 {
+    let trip = trip.clone(alloc)?;
     Ok(PairRow {
         kind: Kind::TripUpdate,
         feed: 0,
         id: Text::new(alloc),
         occurrence: 0,
-        trip: Some(trip.clone(alloc)?),
+        trip: Some(trip),
         vehicle: None,
     })
 }
@@ -48,13 +49,14 @@ fn trip_alone(alloc: Global, trip: &Text) -> Result<PairRow, AllocError>
 fn vehicle_alone(alloc: Global, vehicle: &Text) -> Result<PairRow, AllocError>
     ensures { IfOk result (λ row. (q : Asked) → shares (pair_row row) q ≡ is_id vehicle.now q.vehicle) }
 {
+    let vehicle = vehicle.clone(alloc)?;
     Ok(PairRow {
         kind: Kind::Vehicle,
         feed: 0,
         id: Text::new(alloc),
         occurrence: 0,
         trip: None,
-        vehicle: Some(vehicle.clone(alloc)?),
+        vehicle: Some(vehicle),
     })
 }
 
@@ -69,7 +71,8 @@ fn put_trip(
 {
     let row = trip_alone(alloc, trip)?;
     let found = pairs.naming(alloc, &row)?;
-    put_keys(keys, found)
+    put_keys(keys, found)?;
+    Ok(())
 }
 
 /// Puts the keys of the rows of a vehicle into a set.
@@ -83,7 +86,8 @@ fn put_vehicle(
 {
     let row = vehicle_alone(alloc, vehicle)?;
     let found = pairs.naming(alloc, &row)?;
-    put_keys(keys, found)
+    put_keys(keys, found)?;
+    Ok(())
 }
 
 /// Puts the keys of the rows of some trips into a set. The index is asked once for each trip, however many rows changed.
@@ -132,7 +136,8 @@ fn put_kind(
         return Ok(());
     }
     let found = pairs.keys_of(alloc, kind)?;
-    put_keys(keys, found)
+    put_keys(keys, found)?;
+    Ok(())
 }
 
 fn differ(a: bool, b: bool) -> bool

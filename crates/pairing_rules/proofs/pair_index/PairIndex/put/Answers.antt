@@ -12,7 +12,7 @@ use Rattle.pairing_rules.proofs.InOrder.{sorted-in-order}
 use Rattle.pairing_rules.proofs.Seated.{rows-insert, seated-insert, row-held, seated-new}
 use Rattle.pairing_rules.proofs.Numbering.{number-kept, named-kept, numbered-named, seat-kept}
 use Rattle.pairing_rules.proofs.Indexed.{under-put, put-as, given-beside, missing-beside}
-use Rattle.pairing_rules.proofs.pair_index.PairIndex.add.Goals as goal
+use Rattle.pairing_rules.proofs.pair_index.PairIndex.put.Goals as goal
 
 pub invariant_of-index : goal.invariant_of-index
 invariant_of-index c =

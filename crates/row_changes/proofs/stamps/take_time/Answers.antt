@@ -1,0 +1,4 @@
+use Rattle.row_changes.proofs.stamps.take_time.Goals as goal
+
+pub returns-in-Some : goal.returns-in-Some
+returns-in-Some c = ?
