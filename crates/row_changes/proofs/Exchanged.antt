@@ -1,5 +1,5 @@
 -- The row of a message in the place of another one.
-use Rattle.std.specs.Prelude.{◌≡◌, ℕ, Bool, true, false, not, cond, ◌&&◌, ◌||◌, List, Option, Some, None, option_and_then, refl}
+use Rattle.std.specs.Prelude.{◌≡◌, ℕ, Bool, true, false, not, ◌&&◌, ◌||◌, List, Option, Some, None, option_and_then, refl}
 use Rattle.std.proofs.Common.{sym, ap, ◌∙◌}
 use Rattle.std.proofs.lemmas.Slice.Eq.{bytes_eq-Decides}
 use Rattle.feed_values.specs.Schema.{Value}
@@ -10,11 +10,13 @@ use Rattle.rule_table.specs.declared.kind.Kind.TheVariants.{TripUpdate, Vehicle}
 use Rattle.rule_table.specs.Kinds.{same_kind}
 use Rattle.rule_table.specs.Order.{same_key}
 use Rattle.rule_table.specs.Ids.{update_ids, vehicle_ids}
-use Rattle.rule_table.specs.Pairs.{PairRow, GivenIds, same_id, has_row}
+use Rattle.rule_table.specs.Pairs.{PairRow, GivenIds, same_id, same_row, has_row, row_with}
+use Rattle.pairing_rules.proofs.Members.{row_is}
 use Rattle.row_changes.specs.Given.{rows_under, id_rows}
 use Rattle.row_changes.specs.Ids.{are_same}
-use Rattle.row_changes.proofs.Lists.{or-none}
-use Rattle.row_changes.proofs.EntityRows.{has-split, is_mine, not-mine}
+use Rattle.row_changes.specs.Updated.{exchanged}
+use Rattle.row_changes.proofs.Lists.{or-none, and-none}
+use Rattle.row_changes.proofs.EntityRows.{has-split, ids-there, is_mine, not-mine}
 
 id_is : (a b : Option (List ℕ)) → same_id a b ≡ true → a ≡ b
 id_is None None h = refl
@@ -42,81 +44,106 @@ same_are None (Some n) h = cc
 same_are (Some o) None h = cc
 same_are (Some o) (Some n) h = ap Some (ids_are o n h)
 
-module _ (kind : Kind) (key : EntityKey) (o n : Option GivenIds) (r : PairRow) where
-  abbrev Was : Bool → Type 0
-  Was had = is_mine kind key r ≡ true → had ≡ has_row (id_rows kind key o) r
+pub exchanged-same : (a h : Bool) → exchanged a a h ≡ h
+exchanged-same true true = refl
+exchanged-same true false = refl
+exchanged-same false true = refl
+exchanged-same false false = refl
 
-  -- where both give the same ids
-  pub row-stays : (had : Bool) → are_same o n ≡ true → Was had → had ≡ cond (is_mine kind key r) (has_row (id_rows kind key n) r) had
-  row-stays had same was = each (is_mine kind key r) refl
-    where
-      each : (b : Bool) → is_mine kind key r ≡ b → had ≡ cond b (has_row (id_rows kind key n) r) had
-      each true e = was e ∙ ap (λ x. has_row (id_rows kind key x) r) (same_are o n same)
-      each false e = refl
+-- where what was is what was held
+pub exchanged-all : (was now : Bool) → exchanged was now was ≡ now
+exchanged-all true true = refl
+exchanged-all true false = refl
+exchanged-all false true = refl
+exchanged-all false false = refl
 
-  -- where one is taken out and the other put in
-  pub row-moves : (had mid has : Bool) → Was had → mid ≡ (not (has_row (id_rows kind key o) r) && had) → has ≡ (has_row (id_rows kind key n) r || mid) → has ≡ cond (is_mine kind key r) (has_row (id_rows kind key n) r) had
-  row-moves had mid has was out «in» = each (is_mine kind key r) refl
-    where
-      gone : (b : Bool) → (not b && b) ≡ false
-      gone true = refl
-      gone false = refl
+-- one after the other, where one of them changes nothing
+two-left : (a b c d h : Bool) → c ≡ false → d ≡ false → exchanged c d (exchanged a b h) ≡ exchanged (a || c) (b || d) h
+two-left a b true d h p q = cc
+two-left a b false true h p q = cc
+two-left true true false false true p q = refl
+two-left true true false false false p q = refl
+two-left true false false false true p q = refl
+two-left true false false false false p q = refl
+two-left false true false false true p q = refl
+two-left false true false false false p q = refl
+two-left false false false false true p q = refl
+two-left false false false false false p q = refl
 
-      each : (b : Bool) → is_mine kind key r ≡ b → has ≡ cond b (has_row (id_rows kind key n) r) had
-      each true e =
-          «in» ∙ ap (λ b. has_row (id_rows kind key n) r || b) (out ∙ ap (λ b. not (has_row (id_rows kind key o) r) && b) (was e) ∙ gone (has_row (id_rows kind key o) r))
-          ∙ or-none (has_row (id_rows kind key n) r)
-      each false e =
-          «in» ∙ ap (λ b. b || mid) (not-mine kind key n r e) ∙ out ∙ ap (λ b. not b && had) (not-mine kind key o r e)
+two-right : (a b c d h : Bool) → a ≡ false → b ≡ false → exchanged c d (exchanged a b h) ≡ exchanged (a || c) (b || d) h
+two-right true b c d h p q = cc
+two-right false true c d h p q = cc
+two-right false false true true true p q = refl
+two-right false false true true false p q = refl
+two-right false false true false true p q = refl
+two-right false false true false false p q = refl
+two-right false false false true true p q = refl
+two-right false false false true false p q = refl
+two-right false false false false true p q = refl
+two-right false false false false false p q = refl
+
+module _ (kind : Kind) (key : EntityKey) (r : PairRow) where
+  -- no row is of messages with other ids
+  not-both : (p q : Option GivenIds) → are_same p q ≡ false → has_row (id_rows kind key p) r ≡ true → has_row (id_rows kind key q) r ≡ false
+  not-both None q f h = cc
+  not-both (Some p) q f h = ap (has_row (id_rows kind key q)) (row_is r (row_with kind key p) (sym (or-none (same_row r (row_with kind key p))) ∙ h)) ∙ ids-there kind key p q ∙ f
+
+  module _ (o n : Option GivenIds) where
+    abbrev was : Bool
+    was = has_row (id_rows kind key o) r
+
+    abbrev now : Bool
+    now = has_row (id_rows kind key n) r
+
+    -- where both give the same ids
+    pub row-stays : (had : Bool) → are_same o n ≡ true → had ≡ exchanged was now had
+    row-stays had same = sym (ap (λ x. exchanged (has_row (id_rows kind key x) r) now had) (same_are o n same) ∙ exchanged-same now had)
+
+    -- where one is taken out and the other put in
+    pub row-moves : (had mid has : Bool) → are_same o n ≡ false → mid ≡ (not was && had) → has ≡ (now || mid) → has ≡ exchanged was now had
+    row-moves had mid has other out «in» = «in» ∙ ap (λ b. now || b) out ∙ each was now refl refl
+      where
+        kept : (b h : Bool) → (b || h) ≡ (b && true || h && true)
+        kept true h = refl
+        kept false true = refl
+        kept false false = refl
+
+        each : (a b : Bool) → was ≡ a → now ≡ b → (b || not a && had) ≡ exchanged a b had
+        each true true e f = let z : now ≡ false = not-both o n other e in cc
+        each true false e f = sym (and-none had)
+        each false b e f = kept b had
 
 -- ---- both rows of an entity
-module _ (key : EntityKey) (o n : Option (Value entity)) (r : PairRow) where
+module _ (key : EntityKey) (o : Option (Value entity)) (r : PairRow) where
+  other-kind : (kind : Kind) → same_kind r.kind kind ≡ false → is_mine kind key r ≡ false
+  other-kind kind h = ap (λ b. same_key key r.key && b) h ∙ and-none (same_key key r.key)
+
   -- a row of a kind is there where it is among those of the kind
-  pub update-alone : is_mine TripUpdate key r ≡ true → has_row (rows_under key o) r ≡ has_row (id_rows TripUpdate key (option_and_then update_ids o)) r
-  update-alone e =
-      has-split key o r ∙ ap (λ b. has_row (id_rows TripUpdate key (option_and_then update_ids o)) r || b) (not-mine Vehicle key (option_and_then vehicle_ids o) r (other (same_key key r.key) r.kind e))
+  pub update-alone : r.kind ≡ TripUpdate → has_row (rows_under key o) r ≡ has_row (id_rows TripUpdate key (option_and_then update_ids o)) r
+  update-alone k =
+      has-split key o r ∙ ap (λ b. has_row (id_rows TripUpdate key (option_and_then update_ids o)) r || b) (not-mine Vehicle key (option_and_then vehicle_ids o) r (other-kind Vehicle (ap (λ x. same_kind x Vehicle) k)))
       ∙ or-none (has_row (id_rows TripUpdate key (option_and_then update_ids o)) r)
-    where
-      other : (b : Bool) (k : Kind) → (b && same_kind k TripUpdate) ≡ true → (b && same_kind k Vehicle) ≡ false
-      other true TripUpdate h = refl
-      other true Vehicle h = cc
-      other false k h = cc
 
-  pub vehicle-alone : is_mine Vehicle key r ≡ true → has_row (rows_under key o) r ≡ has_row (id_rows Vehicle key (option_and_then vehicle_ids o)) r
-  vehicle-alone e =
-      has-split key o r ∙ ap (λ b. b || has_row (id_rows Vehicle key (option_and_then vehicle_ids o)) r) (not-mine TripUpdate key (option_and_then update_ids o) r (other (same_key key r.key) r.kind e))
-    where
-      other : (b : Bool) (k : Kind) → (b && same_kind k Vehicle) ≡ true → (b && same_kind k TripUpdate) ≡ false
-      other true TripUpdate h = cc
-      other true Vehicle h = refl
-      other false k h = cc
+  pub vehicle-alone : r.kind ≡ Vehicle → has_row (rows_under key o) r ≡ has_row (id_rows Vehicle key (option_and_then vehicle_ids o)) r
+  vehicle-alone k =
+      has-split key o r ∙ ap (λ b. b || has_row (id_rows Vehicle key (option_and_then vehicle_ids o)) r) (not-mine TripUpdate key (option_and_then update_ids o) r (other-kind TripUpdate (ap (λ x. same_kind x TripUpdate) k)))
 
-  pub key-of : (kind : Kind) → is_mine kind key r ≡ true → same_key key r.key ≡ true
-  key-of kind e = first (same_key key r.key) (same_kind r.kind kind) e
-    where
-      first : (x y : Bool) → (x && y) ≡ true → x ≡ true
-      first true y h = refl
-      first false y h = cc
+  -- and none of the other kind
+  pub no-vehicle : r.kind ≡ TripUpdate → has_row (id_rows Vehicle key (option_and_then vehicle_ids o)) r ≡ false
+  no-vehicle k = not-mine Vehicle key (option_and_then vehicle_ids o) r (other-kind Vehicle (ap (λ x. same_kind x Vehicle) k))
 
-  -- an update of the one kind leaves rows of the other
-  pub vehicles-stay : (had mid : Bool) → mid ≡ cond (is_mine TripUpdate key r) (has_row (id_rows TripUpdate key (option_and_then update_ids n)) r) had → is_mine Vehicle key r ≡ true → mid ≡ had
-  vehicles-stay had mid m e = m ∙ ap (λ b. cond b (has_row (id_rows TripUpdate key (option_and_then update_ids n)) r) had) (other (same_key key r.key) r.kind e)
-    where
-      other : (b : Bool) (k : Kind) → (b && same_kind k Vehicle) ≡ true → (b && same_kind k TripUpdate) ≡ false
-      other true TripUpdate h = cc
-      other true Vehicle h = refl
-      other false k h = cc
+  pub no-update : r.kind ≡ Vehicle → has_row (id_rows TripUpdate key (option_and_then update_ids o)) r ≡ false
+  no-update k = not-mine TripUpdate key (option_and_then update_ids o) r (other-kind TripUpdate (ap (λ x. same_kind x TripUpdate) k))
 
-  pub both-moved : (had mid has : Bool) → mid ≡ cond (is_mine TripUpdate key r) (has_row (id_rows TripUpdate key (option_and_then update_ids n)) r) had →
-      has ≡ cond (is_mine Vehicle key r) (has_row (id_rows Vehicle key (option_and_then vehicle_ids n)) r) mid → has ≡ cond (same_key key r.key) (has_row (rows_under key n) r) had
+module _ (key : EntityKey) (o n : Option (Value entity)) (r : PairRow) where
+  abbrev pub of : Kind → Option (Value entity) → Bool
+  of TripUpdate e = has_row (id_rows TripUpdate key (option_and_then update_ids e)) r
+  of Vehicle e = has_row (id_rows Vehicle key (option_and_then vehicle_ids e)) r
+
+  pub both-moved : (had mid has : Bool) → mid ≡ exchanged (of TripUpdate o) (of TripUpdate n) had → has ≡ exchanged (of Vehicle o) (of Vehicle n) mid → has ≡ exchanged (has_row (rows_under key o) r) (has_row (rows_under key n) r) had
   both-moved had mid has m h =
-      h ∙ ap (λ b. cond (is_mine Vehicle key r) (has_row (id_rows Vehicle key (option_and_then vehicle_ids n)) r) b) m
-      ∙ each (same_key key r.key) r.kind (has_row (id_rows TripUpdate key (option_and_then update_ids n)) r) (has_row (id_rows Vehicle key (option_and_then vehicle_ids n)) r)
-      (λ e. not-mine TripUpdate key (option_and_then update_ids n) r e) (λ e. not-mine Vehicle key (option_and_then vehicle_ids n) r e)
-      ∙ ap (λ b. cond (same_key key r.key) b had) (sym (has-split key n r))
+      h ∙ ap (exchanged (of Vehicle o) (of Vehicle n)) m ∙ each r.kind refl ∙ ap (λ b. exchanged b (of TripUpdate n || of Vehicle n) had) (sym (has-split key o r)) ∙ ap (λ b. exchanged (has_row (rows_under key o) r) b had) (sym (has-split key n r))
     where
-      each : (b : Bool) (k : Kind) (x y : Bool) → ((b && same_kind k TripUpdate) ≡ false → x ≡ false) → ((b && same_kind k Vehicle) ≡ false → y ≡ false) →
-          cond (b && same_kind k Vehicle) y (cond (b && same_kind k TripUpdate) x had) ≡ cond b (x || y) had
-      each true TripUpdate x y p q = sym (or-none x) ∙ ap (λ z. x || z) (sym (q refl))
-      each true Vehicle x y p q = ap (λ z. z || y) (sym (p refl))
-      each false k x y p q = refl
+      each : (k : Kind) → r.kind ≡ k → exchanged (of Vehicle o) (of Vehicle n) (exchanged (of TripUpdate o) (of TripUpdate n) had) ≡ exchanged (of TripUpdate o || of Vehicle o) (of TripUpdate n || of Vehicle n) had
+      each TripUpdate k = two-left (of TripUpdate o) (of TripUpdate n) (of Vehicle o) (of Vehicle n) had (no-vehicle key o r k) (no-vehicle key n r k)
+      each Vehicle k = two-right (of TripUpdate o) (of TripUpdate n) (of Vehicle o) (of Vehicle n) had (no-update key o r k) (no-update key n r k)

@@ -3,7 +3,6 @@ use Rattle.std.specs.Prelude.{◌≡◌, ℕ, Bool, true, false, not, cond, ◌&
 use Rattle.std.specs.List.{list_any}
 use Rattle.std.proofs.Common.{sym, ap, ◌∙◌}
 use Rattle.std.proofs.lemmas.List.Elements.{filter-append}
-use Rattle.std.proofs.lemmas.Bool.{and_from}
 use Rattle.feed_values.specs.Schema.{Value}
 use Rattle.feed_values.specs.Messages.{entity}
 use Rattle.rule_table.specs.declared.key.EntityKey.{EntityKey}
@@ -11,7 +10,6 @@ use Rattle.rule_table.specs.declared.kind.Kind.{Kind}
 use Rattle.rule_table.specs.declared.kind.Kind.TheVariants.{TripUpdate, Vehicle}
 use Rattle.rule_table.specs.Ids.{update_ids, vehicle_ids, same_ids}
 use Rattle.rule_table.specs.Pairs.{PairRow, GivenIds, is_id, has_row, row_with}
-use Rattle.rule_table.proofs.SameKeys.{key_self}
 use Rattle.rule_history.specs.Changed.{rows_without, changed_rows}
 use Rattle.row_changes.specs.declared.ids.ChangedIds.{ChangedIds}
 use Rattle.row_changes.specs.Given.{rows_under, id_rows}
@@ -20,17 +18,16 @@ use Rattle.row_changes.specs.Updated.{AreNoted}
 use Rattle.row_changes.proofs.Lists.{any-append, or-none, or-apart}
 use Rattle.row_changes.proofs.EntityRows.{rows-split, ids-there}
 use Rattle.row_changes.proofs.Exchanged.{update-alone, vehicle-alone}
-use Rattle.row_changes.proofs.Members.{kind_self}
 
 module _ (q : List ℕ) (key : EntityKey) (o : Option (Value entity)) where
   abbrev is_gone : PairRow → Bool
   is_gone r = not (has_row (rows_under key o) r)
 
   update-there : (ids : GivenIds) → has_row (rows_under key o) (row_with TripUpdate key ids) ≡ same_ids ids (option_and_then update_ids o)
-  update-there ids = update-alone key o o (row_with TripUpdate key ids) (and_from _ true (key_self key) refl) ∙ ids-there TripUpdate key ids (option_and_then update_ids o)
+  update-there ids = update-alone key o (row_with TripUpdate key ids) refl ∙ ids-there TripUpdate key ids (option_and_then update_ids o)
 
   vehicle-there : (ids : GivenIds) → has_row (rows_under key o) (row_with Vehicle key ids) ≡ same_ids ids (option_and_then vehicle_ids o)
-  vehicle-there ids = vehicle-alone key o o (row_with Vehicle key ids) (and_from _ true (key_self key) refl) ∙ ids-there Vehicle key ids (option_and_then vehicle_ids o)
+  vehicle-there ids = vehicle-alone key o (row_with Vehicle key ids) refl ∙ ids-there Vehicle key ids (option_and_then vehicle_ids o)
 
   one-left : (of : PairRow → Option (List ℕ)) (r : PairRow) (b : Bool) → has_row (rows_under key o) r ≡ b → list_any (λ c. is_id q (of c)) (filter is_gone (r ∷ [])) ≡ (not b && is_id q (of r))
   one-left of r b h = ap (λ x. list_any (λ c. is_id q (of c)) (cond (not x) (r ∷ []) [])) h ∙ either b

@@ -12,10 +12,12 @@ use Rattle.rule_history.specs.Changed.{changed_rows, differ}
 use Rattle.engine_laws.specs.HeldFeeds.{rows_held}
 use Rattle.history_rules.specs.Stamps.{Stamp, holds}
 use Rattle.row_changes.specs.Given.{rows_under, is_given}
-use Rattle.row_changes.specs.Held.{Entities, entity_at, AreOfEntities, NothingIsHeld, is_done, replaced, changed_at, StartReplaces, UpdateReplaces, OldIsHeld, AllIsReplaced}
+use Rattle.row_changes.specs.Held.{Entities, entity_at, AreOfEntities, NothingIsHeld, is_done, replaced, changed_at, StartReplaces, UpdateReplaces, AllIsReplaced}
 use Rattle.row_changes.proofs.Lists.{any-append, any-flat, any-same, any-and, or-none}
 use Rattle.row_changes.proofs.Members.{any-members, has-changed, differ-same, key-symm}
+use Rattle.row_changes.specs.Updated.{exchanged}
 use Rattle.row_changes.proofs.EntityRows.{not-here}
+use Rattle.row_changes.proofs.Exchanged.{exchanged-same, exchanged-all}
 use Rattle.row_changes.proofs.Feeds.{rows-are}
 
 or-true : (a : Bool) → (a || true) ≡ true
@@ -41,32 +43,25 @@ start old new held ids h t v = record {
   ids_are = record { trips_are = t; vehicles_are = v };
 }
 
--- ---- a key that isn't done
-pub old_held : OldIsHeld
-old_held old new done key held ids h n = record {
-  rows_are = λ r e.
-      h.held_are.rows_are r ∙ ap (λ k. has_row (rows_under k (replaced old new done k)) r) (sym (key_is key r.key e)) ∙ ap (λ b. has_row (rows_under key (cond b (new key) (old key))) r) n;
-  stamps_are = λ s e.
-      h.held_are.stamps_are s ∙ ap (λ k. is_given (replaced old new done k) s) (sym (key_is key s.key e)) ∙ ap (λ b. is_given (cond b (new key) (old key)) s) n;
-}
-
 -- ---- one more key
 done-now : (done : List EntityKey) (key k : EntityKey) → is_done (done ++ key ∷ []) k ≡ (is_done done k || same_key k key)
 done-now done key k = any-append (same_key k) done (key ∷ []) ∙ ap (λ b. is_done done k || b) (or-none (same_key k key))
 
 module _ (old new : Entities) (done : List EntityKey) (key : EntityKey) where
   -- what a test says of the entity under a key, before and after
-  moved : (test : EntityKey → Option (Value entity) → Bool) (k : EntityKey) (had has : Bool) → had ≡ test k (replaced old new done k) → has ≡ cond (same_key key k) (test key (new key)) had → has ≡ test k (replaced old new (done ++ key ∷ []) k)
-  moved test k had has h u = u ∙ each (same_key key k) refl
+  moved : (test : EntityKey → Option (Value entity) → Bool) (k : EntityKey) (was now had has : Bool) → is_done done key ≡ false → was ≡ (same_key key k && test key (old key)) → now ≡ (same_key key k && test key (new key)) →
+      had ≡ test k (replaced old new done k) → has ≡ exchanged was now had → has ≡ test k (replaced old new (done ++ key ∷ []) k)
+  moved test k was now had has n w x h u = u ∙ ap (λ b. exchanged b now had) w ∙ ap (λ b. exchanged (same_key key k && test key (old key)) b had) x ∙ each (same_key key k) refl
     where
-      each : (b : Bool) → same_key key k ≡ b → cond b (test key (new key)) had ≡ test k (replaced old new (done ++ key ∷ []) k)
+      each : (b : Bool) → same_key key k ≡ b → exchanged (b && test key (old key)) (b && test key (new key)) had ≡ test k (replaced old new (done ++ key ∷ []) k)
       each true e =
           let same : key ≡ k = key_is key k e in
+          let before : had ≡ test key (old key) = h ∙ ap (λ y. test y (replaced old new done y)) (sym same) ∙ ap (λ b. test key (cond b (new key) (old key))) n in
           let all : is_done (done ++ key ∷ []) k ≡ true = done-now done key k ∙ ap (λ b. is_done done k || b) (key-symm k key ∙ e) ∙ or-true (is_done done k) in
-          ap (λ x. test x (new x)) same ∙ ap (λ b. test k (cond b (new k) (old k))) (sym all)
+          ap (exchanged (test key (old key)) (test key (new key))) before ∙ exchanged-all (test key (old key)) (test key (new key)) ∙ ap (λ y. test y (new y)) same ∙ ap (λ b. test k (cond b (new k) (old k))) (sym all)
       each false e =
           let still : is_done (done ++ key ∷ []) k ≡ is_done done k = done-now done key k ∙ ap (λ b. is_done done k || b) (key-symm k key ∙ e) ∙ or-none (is_done done k) in
-          h ∙ ap (λ b. test k (cond b (new k) (old k))) (sym still)
+          exchanged-same false had ∙ h ∙ ap (λ b. test k (cond b (new k) (old k))) (sym still)
 
   abbrev changes : EntityKey → List PairRow
   changes k = changed_rows (rows_under k (old k)) (rows_under k (new k))
@@ -76,11 +71,20 @@ module _ (old new : Entities) (done : List EntityKey) (key : EntityKey) where
       u ∙ ap (λ b. b || list_any p (changes key)) (h ∙ any-flat p changes done)
       ∙ sym (any-flat p changes (done ++ key ∷ []) ∙ any-append (λ k. list_any p (changes k)) done (key ∷ []) ∙ ap (λ b. list_any (λ k. list_any p (changes k)) done || b) (or-none (list_any p (changes key))))
 
+-- the rows of a key are under it alone
+only-here : (key : EntityKey) (o : Option (Value entity)) (r : PairRow) → has_row (rows_under key o) r ≡ (same_key key r.key && has_row (rows_under key o) r)
+only-here key o r = each (same_key key r.key) refl
+  where
+    each : (b : Bool) → same_key key r.key ≡ b → has_row (rows_under key o) r ≡ (b && has_row (rows_under key o) r)
+    each true e = refl
+    each false e = not-here key o r e
+
 pub update : UpdateReplaces
-update old new done key before after had has h u n = record {
+update old new done key before after had has h d u n = record {
   held_are = record {
-    rows_are = λ r. moved old new done key (λ k o. has_row (rows_under k o) r) r.key (has_row before.pairs r) (has_row after.pairs r) (h.held_are.rows_are r) (u.rows_are r);
-    stamps_are = λ s. moved old new done key (λ k o. is_given o s) s.key (holds before.stamps s) (holds after.stamps s) (h.held_are.stamps_are s) (u.stamps_are s);
+    rows_are = λ r.
+        moved old new done key (λ k o. has_row (rows_under k o) r) r.key _ _ (has_row before.pairs r) (has_row after.pairs r) d (only-here key (old key) r) (only-here key (new key) r) (h.held_are.rows_are r) (u.rows_are r);
+    stamps_are = λ s. moved old new done key (λ k o. is_given o s) s.key _ _ (holds before.stamps s) (holds after.stamps s) d refl refl (h.held_are.stamps_are s) (u.stamps_are s);
   };
   ids_are = record {
     trips_are = λ q. one-more old new done key (λ r. is_id q r.trip) _ _ (h.ids_are.trips_are q) (n.trips_are q);

@@ -1,5 +1,5 @@
 -- The timestamps of an entity in the place of others.
-use Rattle.std.specs.Prelude.{◌≡◌, ℕ, ◌==◌, Bool, true, false, not, cond, ◌&&◌, ◌||◌, Option, Some, None, option_map, pos, refl}
+use Rattle.std.specs.Prelude.{◌≡◌, ℕ, ◌==◌, Bool, true, false, not, ◌&&◌, ◌||◌, Option, Some, None, option_map, pos, refl}
 use Rattle.std.proofs.Common.{sym, ap, ◌∙◌, arith}
 use Rattle.std.proofs.lemmas.Bool.Decides.{nat_tests}
 use Rattle.std.proofs.lemmas.Bool.{eqb-true}
@@ -10,8 +10,9 @@ use Rattle.rule_table.specs.Order.{same_key}
 use Rattle.rule_table.proofs.SameKeys.{key_is}
 use Rattle.history_rules.specs.Stamps.{Stamp, stamp_of, same_stamp}
 use Rattle.row_changes.specs.declared.stamps.Times.{Times}
-use Rattle.row_changes.specs.Given.{gives_time, is_time, is_given}
+use Rattle.row_changes.specs.Given.{gives_time, is_time, is_given_under}
 use Rattle.row_changes.specs.Times.{is_at, are_given, is_stamp}
+use Rattle.row_changes.specs.Updated.{exchanged}
 use Rattle.row_changes.proofs.Lists.{and-none}
 
 eq-turned : (a b : ℕ) → (a == b) ≡ (b == a)
@@ -68,29 +69,43 @@ module _ (key : EntityKey) (s : Stamp) where
       each false e = none (key.feed == s.at.feed) (same_key key s.key) (not (are_given kept s.at.stamp))
 
   -- ---- two taken out and two put in
-  moved : (k f h a b c d : Bool) → (k ≡ true → h ≡ (f && (a || b))) →
-      ((k && f && d && not (a || b)) || ((k && f && c && not (a || b)) || (not (k && f && b && not (c || d)) && (not (k && f && a && not (c || d)) && h)))) ≡ cond k (f && (c || d)) h
-  moved false f h a b c d p = refl
-  moved true false h a b c d p = p refl
-  moved true true h a b c d p = ap (λ x. (d && not (a || b)) || ((c && not (a || b)) || (not (b && not (c || d)) && (not (a && not (c || d)) && x)))) (p refl) ∙ each a b c d
-    where
-      each : (a b c d : Bool) → ((d && not (a || b)) || ((c && not (a || b)) || (not (b && not (c || d)) && (not (a && not (c || d)) && (a || b))))) ≡ (c || d)
-      each true true true true = refl
-      each true true true false = refl
-      each true true false true = refl
-      each true true false false = refl
-      each true false true true = refl
-      each true false true false = refl
-      each true false false true = refl
-      each true false false false = refl
-      each false true true true = refl
-      each false true true false = refl
-      each false true false true = refl
-      each false true false false = refl
-      each false false true true = refl
-      each false false true false = refl
-      each false false false true = refl
-      each false false false false = refl
+  moved : (k f h a b c d : Bool) → ((k && f && d && not (a || b)) || ((k && f && c && not (a || b)) || (not (k && f && b && not (c || d)) && (not (k && f && a && not (c || d)) && h)))) ≡ exchanged (k && (f && (a || b))) (k && (f && (c || d))) h
+  moved false f true a b c d = refl
+  moved false f false a b c d = refl
+  moved true false true a b c d = refl
+  moved true false false a b c d = refl
+  moved true true true true true true true = refl
+  moved true true true true true true false = refl
+  moved true true true true true false true = refl
+  moved true true true true true false false = refl
+  moved true true true true false true true = refl
+  moved true true true true false true false = refl
+  moved true true true true false false true = refl
+  moved true true true true false false false = refl
+  moved true true true false true true true = refl
+  moved true true true false true true false = refl
+  moved true true true false true false true = refl
+  moved true true true false true false false = refl
+  moved true true true false false true true = refl
+  moved true true true false false true false = refl
+  moved true true true false false false true = refl
+  moved true true true false false false false = refl
+  moved true true false true true true true = refl
+  moved true true false true true true false = refl
+  moved true true false true true false true = refl
+  moved true true false true true false false = refl
+  moved true true false true false true true = refl
+  moved true true false true false true false = refl
+  moved true true false true false false true = refl
+  moved true true false true false false false = refl
+  moved true true false false true true true = refl
+  moved true true false false true true false = refl
+  moved true true false false true false true = refl
+  moved true true false false true false false = refl
+  moved true true false false false true true = refl
+  moved true true false false false true false = refl
+  moved true true false false false false true = refl
+  moved true true false false false false false = refl
 
   taken : (t : Option ℕ) (w h m : Bool) → m ≡ (not (is_stamp key t s && w) && h) → m ≡ (not (is_here && is_at s.at.stamp t && w) && h)
   taken t w h m e = e ∙ ap (λ b. not (b && w) && h) (stamp-parts t)
@@ -99,14 +114,16 @@ module _ (key : EntityKey) (s : Stamp) where
   put t w h m e = e ∙ ap (λ b. (b && w) || h) (stamp-parts t)
 
   pub stamps-moved : (was now : Times) (o n : Option (Value entity)) (h one two three four : Bool) → ((t : ℕ) → are_given was t ≡ gives_time o t) → ((t : ℕ) → are_given now t ≡ gives_time n t) →
-      (same_key key s.key ≡ true → h ≡ is_given o s) → one ≡ (not (is_stamp key was.update s && not (are_given now s.at.stamp)) && h) → two ≡ (not (is_stamp key was.vehicle s && not (are_given now s.at.stamp)) && one) →
-      three ≡ ((is_stamp key now.update s && not (are_given was s.at.stamp)) || two) → four ≡ ((is_stamp key now.vehicle s && not (are_given was s.at.stamp)) || three) → four ≡ cond (same_key key s.key) (is_given n s) h
-  stamps-moved was now o n h one two three four tw tn p e f g i =
+      one ≡ (not (is_stamp key was.update s && not (are_given now s.at.stamp)) && h) → two ≡ (not (is_stamp key was.vehicle s && not (are_given now s.at.stamp)) && one) →
+      three ≡ ((is_stamp key now.update s && not (are_given was s.at.stamp)) || two) → four ≡ ((is_stamp key now.vehicle s && not (are_given was s.at.stamp)) || three) → four ≡ exchanged (is_given_under key o s) (is_given_under key n s) h
+  stamps-moved was now o n h one two three four tw tn e f g i =
       let t = s.at.stamp in
       let gone = not (are_given was t) in
       let left = not (are_given now t) in
+      let k = same_key key s.key in
+      let of = s.at.feed == s.key.feed in
       put now.vehicle gone three four i
       ∙ ap (λ x. (is_here && is_at t now.vehicle && gone) || x) (put now.update gone two three g
       ∙ ap (λ x. (is_here && is_at t now.update && gone) || x) (taken was.vehicle left one two f ∙ ap (λ x. not (is_here && is_at t was.vehicle && left) && x) (taken was.update left h one e)))
-      ∙ moved (same_key key s.key) (s.at.feed == s.key.feed) h (is_at t was.update) (is_at t was.vehicle) (is_at t now.update) (is_at t now.vehicle) (λ k. p k ∙ ap (λ b. s.at.feed == s.key.feed && b) (sym (tw t)))
-      ∙ ap (λ b. cond (same_key key s.key) (s.at.feed == s.key.feed && b) h) (tn t)
+      ∙ moved k of h (is_at t was.update) (is_at t was.vehicle) (is_at t now.update) (is_at t now.vehicle)
+      ∙ ap (λ b. exchanged (k && (of && b)) (k && (of && are_given now t)) h) (tw t) ∙ ap (λ b. exchanged (is_given_under key o s) (k && (of && b)) h) (tn t)

@@ -5,6 +5,7 @@ use Rattle.feed_values.specs.Schema.{Value}
 use Rattle.feed_values.specs.Messages.{entity, trip_update, vehicle_position}
 use Rattle.rule_table.specs.declared.key.EntityKey.{EntityKey}
 use Rattle.rule_table.specs.declared.kind.Kind.{Kind}
+use Rattle.rule_table.specs.Order.{same_key}
 use Rattle.rule_table.specs.Judged.{update_of}
 use Rattle.rule_table.specs.Pairs.{PairRow, GivenIds, rows_of, row_with, vehicle_of}
 use Rattle.history_rules.specs.Stamps.{Stamp}
@@ -45,3 +46,7 @@ gives_time (Some e) n = is_time n (update_time e) || is_time n (vehicle_time e)
 -- whether a stamp is one that an entity under its key gives, of the feed of that key
 abbrev pub is_given : Option (Value entity) → Stamp → Bool
 is_given o s = s.at.feed == s.key.feed && gives_time o s.at.stamp
+
+-- whether an entity that may be there under a key gives a stamp
+abbrev pub is_given_under : EntityKey → Option (Value entity) → Stamp → Bool
+is_given_under key o s = same_key key s.key && is_given o s

@@ -70,18 +70,10 @@ pub record AreReplaced (old new : Entities) (done : List EntityKey) (held : Held
 abbrev pub StartReplaces : Type 0
 StartReplaces = (old new : Entities) (held : HeldRows) (ids : ChangedIds) → AreOfEntities old held → ((q : List ℕ) → has_text ids.trips q ≡ false) → ((q : List ℕ) → has_text ids.vehicles q ≡ false) → AreReplaced old new [] held ids
 
--- One more key is done by one update, whose condition holds where it isn't done yet.
+-- one more key is done by one update, where it isn't done yet
 abbrev pub UpdateReplaces : Type 0
-UpdateReplaces = (old new : Entities) (done : List EntityKey) (key : EntityKey) (before after : HeldRows) (had has : ChangedIds) → AreReplaced old new done before had → IsUpdated key (new key) before after → AreNoted key (old key) (new key) had has →
+UpdateReplaces = (old new : Entities) (done : List EntityKey) (key : EntityKey) (before after : HeldRows) (had has : ChangedIds) → AreReplaced old new done before had → is_done done key ≡ false → IsUpdated key (old key) (new key) before after → AreNoted key (old key) (new key) had has →
     AreReplaced old new (done ++ key ∷ []) after has
-
--- what is held under a key is what an entity gives
-pub record IsHeldAt (key : EntityKey) (old : Option (Value entity)) (held : HeldRows) : Type 0 where
-  pub rows_are : (r : PairRow) → same_key key r.key ≡ true → has_row held.pairs r ≡ has_row (rows_under key old) r
-  pub stamps_are : (s : Stamp) → same_key key s.key ≡ true → holds held.stamps s ≡ is_given old s
-
-abbrev pub OldIsHeld : Type 0
-OldIsHeld = (old new : Entities) (done : List EntityKey) (key : EntityKey) (held : HeldRows) (ids : ChangedIds) → AreReplaced old new done held ids → is_done done key ≡ false → IsHeldAt key (old key) held
 
 -- Once all keys are done at which something changed, the rows and timestamps are those of the new feeds, and the ids are those of the rows that
 -- came or went in all.

@@ -1,7 +1,6 @@
 //! The rows and timestamps of entities.
 ghost use Rattle.std.specs.Prelude.{◌≡◌, [], IfOk, OnOk, option_map, option_copied};
 ghost use Rattle.feed_values.specs.Views.{entity_value};
-ghost use Rattle.row_changes.specs.Held.{IsHeldAt};
 ghost use Rattle.row_changes.specs.Updated.{IsUpdated, AreNoted};
 
 use crate::ids::ChangedIds;
@@ -43,8 +42,7 @@ impl HeldRows {
         new: Option<&Entity>,
         ids: &mut ChangedIds,
     ) -> Result<HeldRows, AllocError>
-        requires { IsHeldAt key.now (option_map entity_value (option_copied old)) self }
-        ensures updated { IfOk result (IsUpdated key.now (option_map entity_value (option_copied new.entry)) self) }
+        ensures updated { IfOk result (IsUpdated key.now (option_map entity_value (option_copied old.entry)) (option_map entity_value (option_copied new.entry)) self) }
         ensures noted { OnOk result (AreNoted key.now (option_map entity_value (option_copied old.entry)) (option_map entity_value (option_copied new.entry)) ids.old ids.new) }
     {
         ids.note(alloc, old, new)?;

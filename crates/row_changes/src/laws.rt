@@ -1,5 +1,5 @@
 //! Laws of rows and timestamps that are held. A function stands for its contract: it does nothing.
-ghost use Rattle.row_changes.specs.Held.{AllIsReplaced, AreAlikeHeld, AreHeldRows, NoneIsLater, NothingIsHeld, OldIsHeld, OverKeysAre, PairedKeysAre, StartReplaces, UpdateReplaces};
+ghost use Rattle.row_changes.specs.Held.{AllIsReplaced, AreAlikeHeld, AreHeldRows, NoneIsLater, NothingIsHeld, OverKeysAre, PairedKeysAre, StartReplaces, UpdateReplaces};
 
 /// Nothing is held of no entities.
 pub fn nothing_is_held()
@@ -21,12 +21,7 @@ pub fn start_replaces()
     ensures { StartReplaces }
 {}
 
-/// What stands under a key that isn't done is what the old entity gives.
-pub fn old_is_held()
-    ensures { OldIsHeld }
-{}
-
-/// One update does one key more.
+/// One update does one key more, where it wasn't done.
 pub fn update_replaces()
     ensures { UpdateReplaces }
 {}

@@ -23,6 +23,6 @@ pub use ids::ChangedIds;
 pub use kinds::Kinds;
 pub use laws::{
     all_is_replaced, held_rows_are_alike, held_rows_are_those, none_is_later, nothing_is_held,
-    old_is_held, over_keys_are, paired_keys_are, start_replaces, update_replaces,
+    over_keys_are, paired_keys_are, start_replaces, update_replaces,
 };
 pub use touched::{bounded_keys, keys_above, paired_keys};

@@ -1,13 +1,12 @@
 //! The pairing rows of an entity exchanged.
-ghost use Rattle.std.specs.Prelude.{◌≡◌, ◌&&◌, ◌||◌, not, true, IfOk, OnOk, option_map, option_copied, if◌then◌else◌};
+ghost use Rattle.std.specs.Prelude.{◌≡◌, ◌&&◌, ◌||◌, not, IfOk, OnOk, option_map, option_copied};
 ghost use Rattle.feed_values.specs.Views.{entity_value};
 ghost use Rattle.rule_table.specs.Ids.{ids_value};
-ghost use Rattle.rule_table.specs.Kinds.{same_kind};
-ghost use Rattle.rule_table.specs.Order.{same_key};
 ghost use Rattle.rule_table.specs.Pairs as pairs;
 ghost use Rattle.rule_table.specs.Pairs.{has_row};
 ghost use Rattle.row_changes.specs.Given.{id_rows, rows_under};
 ghost use Rattle.row_changes.specs.Ids.{are_same};
+ghost use Rattle.row_changes.specs.Updated.{exchanged};
 
 use crate::ids::{given_update, given_vehicle};
 use feed_values::Entity;
@@ -75,9 +74,8 @@ fn update_row(
     old: Option<Ids<'_>>,
     new: Option<Ids<'_>>,
 ) -> Result<PairIndex, AllocError>
-    requires { (r : pairs.PairRow) → (same_key key.now r.key && same_kind r.kind kind) ≡ true → has_row index r ≡ has_row (id_rows kind key.now (option_map ids_value old)) r }
     ensures { IfOk result (λ next. (r : pairs.PairRow) → has_row next r
-        ≡ (if same_key key.now r.key && same_kind r.kind kind then has_row (id_rows kind key.now (option_map ids_value new.entry)) r else has_row index r)) }
+        ≡ exchanged (has_row (id_rows kind key.now (option_map ids_value old.entry)) r) (has_row (id_rows kind key.now (option_map ids_value new.entry)) r) (has_row index r)) }
 {
     if are_same(old, new) {
         return Ok(index);
@@ -96,9 +94,8 @@ pub(crate) fn update_rows(
     old: Option<&Entity>,
     new: Option<&Entity>,
 ) -> Result<PairIndex, AllocError>
-    requires { (r : pairs.PairRow) → same_key key.now r.key ≡ true → has_row index r ≡ has_row (rows_under key.now (option_map entity_value (option_copied old))) r }
     ensures { IfOk result (λ next. (r : pairs.PairRow) → has_row next r
-        ≡ (if same_key key.now r.key then has_row (rows_under key.now (option_map entity_value (option_copied new.entry))) r else has_row index r)) }
+        ≡ exchanged (has_row (rows_under key.now (option_map entity_value (option_copied old.entry))) r) (has_row (rows_under key.now (option_map entity_value (option_copied new.entry))) r) (has_row index r)) }
 {
     let (was, is) = (given_update(old), given_update(new));
     let updates = update_row(alloc, index, Kind::TripUpdate, key, was, is)?;

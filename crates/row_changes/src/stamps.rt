@@ -1,10 +1,10 @@
 //! The timestamps of an entity exchanged.
-ghost use Rattle.std.specs.Prelude.{◌≡◌, ◌&&◌, ◌||◌, ℕ, not, true, IfOk, pos, option_map, option_copied, if◌then◌else◌};
+ghost use Rattle.std.specs.Prelude.{◌≡◌, ◌&&◌, ◌||◌, ℕ, not, IfOk, pos, option_map, option_copied};
 ghost use Rattle.feed_values.specs.Views.{entity_value};
-ghost use Rattle.rule_table.specs.Order.{same_key};
 ghost use Rattle.history_rules.specs.Stamps.{Stamp, holds};
-ghost use Rattle.row_changes.specs.Given.{gives_time, is_given, update_time, vehicle_time};
+ghost use Rattle.row_changes.specs.Given.{gives_time, is_given_under, update_time, vehicle_time};
 ghost use Rattle.row_changes.specs.Times.{are_given, is_stamp};
+ghost use Rattle.row_changes.specs.Updated.{exchanged};
 
 use feed_values::Entity;
 use history_rules::StampIndex;
@@ -103,9 +103,8 @@ pub(crate) fn update_stamps(
     old: Option<&Entity>,
     new: Option<&Entity>,
 ) -> Result<StampIndex, AllocError>
-    requires { (s : Stamp) → same_key key.now s.key ≡ true → holds stamps s ≡ is_given (option_map entity_value (option_copied old)) s }
     ensures { IfOk result (λ next. (s : Stamp) → holds next s
-        ≡ (if same_key key.now s.key then is_given (option_map entity_value (option_copied new.entry)) s else holds stamps s)) }
+        ≡ exchanged (is_given_under key.now (option_map entity_value (option_copied old.entry)) s) (is_given_under key.now (option_map entity_value (option_copied new.entry)) s) (holds stamps s)) }
 {
     let was = Times::of(old);
     let is = Times::of(new);
