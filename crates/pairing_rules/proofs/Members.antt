@@ -2,13 +2,12 @@
 use Rattle.std.proofs.Common.{◌≡◌, ◌&&◌, ◌||◌, not, ℕ, Bool, true, false, cond, List, [], ◌∷◌, Option, Some, None, refl, sym, ◌∙◌, ap}
 use Rattle.std.specs.declared.cmp.Ordering.{Ordering}
 use Rattle.std.specs.declared.cmp.Ordering.TheVariants.{Less, Equal, Greater}
-use Rattle.std.specs.Ordering.{nat_cmp, is_eq}
+use Rattle.std.specs.Ordering.{is_eq}
 use Rattle.std.specs.Cmp.{IsTotalOrder}
-use Rattle.std.specs.Cmp.Lexicographic.{slice_cmp}
 use Rattle.std.specs.List.{filter, list_any, AllByRecursion}
 use Rattle.std.specs.List.Sorted.{IsStrictlySortedBy}
 use Rattle.std.specs.BTreeMap.{is_at}
-use Rattle.std.specs.BTreeSet.{BTreeSet, insert_key}
+use Rattle.std.specs.BTreeSet.{insert_key}
 use Rattle.std.specs.Set.{remove_key}
 use Rattle.std.proofs.lemmas.Map.Lookups.{btree_set_from_contains}
 use Rattle.std.proofs.lemmas.Map.Text.{is_eq-slice_cmp}
@@ -19,7 +18,7 @@ use Rattle.rule_table.specs.Order.{key_cmp, same_key}
 use Rattle.rule_table.specs.Pairs.{PairRow, same_id, same_row, has_row}
 use Rattle.pairing_rules.specs.Rows.{row_cmp, id_cmp}
 use Rattle.pairing_rules.proofs.Order.{rows_total, exact_rows, same-key, then-eq}
-use Rattle.pairing_rules.proofs.Lists.{any-same, any-none, all-then}
+use Rattle.pairing_rules.proofs.Lists.{any-same, all-then}
 use Rattle.pairing_rules.proofs.InOrder.{any-insert}
 
 -- ---- rows that compare alike are the same
@@ -147,3 +146,22 @@ pub same_rows : (u v : List PairRow) → IsStrictlySortedBy row_cmp u → IsStri
 same_rows u v s t h =
     btree_set_from_contains rows_total (record { keys = u }) (record { keys = v }) s t
     (λ q. any-same (is_at (row_cmp q)) (same_row q) (same-row q) u ∙ h q ∙ sym (any-same (is_at (row_cmp q)) (same_row q) (same-row q) v)) exact_rows
+
+-- ---- rows gone through
+-- one item done, one less to go
+pub one-less : {A : Type 0} (p : A → Bool) (new old all : Bool) (x : A) (xs rest : List A) → new ≡ (old || p x) → xs ≡ x ∷ rest → (old || list_any p xs) ≡ all → (new || list_any p rest) ≡ all
+one-less p new old all x xs rest n s h = ap (λ b. b || list_any p rest) n ∙ apart old (p x) (list_any p rest) ∙ ap (λ ys. old || list_any p ys) (sym s) ∙ h
+  where
+    apart : (a b c : Bool) → ((a || b) || c) ≡ (a || (b || c))
+    apart true b c = refl
+    apart false b c = refl
+
+-- a row put in last
+pub has-last : (u : List PairRow) (r x : PairRow) → has_row (insert_key row_cmp u r) x ≡ (has_row u x || same_row x r)
+has-last u r x = has-put u r x ∙ swap (same_row x r) (has_row u x)
+  where
+    swap : (a b : Bool) → (a || b) ≡ (b || a)
+    swap true true = refl
+    swap true false = refl
+    swap false true = refl
+    swap false false = refl

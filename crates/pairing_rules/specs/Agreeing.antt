@@ -25,7 +25,7 @@ use Rattle.rule_table.specs.CitedLaws.{both_same, value_is, found_along, found_e
 use Rattle.rule_table.specs.Answers.{pair_answer, yes, natural_cell}
 use Rattle.rule_table.specs.Judged.{found_at, found_all, update_of}
 use Rattle.rule_table.specs.Groups.{Each}
-use Rattle.rule_table.specs.Pairs.{PairRow, rows_of, update_rows, vehicle_rows, vehicle_of, trip_id_in, vehicle_id_in, has_trip, has_vehicle, has_pair, first_vehicle, first_key, any_row}
+use Rattle.rule_table.specs.Pairs.{PairRow, rows_of, update_rows, vehicle_rows, vehicle_of, trip_id_in, vehicle_id_in, has_pair, any_row}
 use Rattle.rule_table.specs.PairAgree.{Agree, AgreeOnRow, AgreeOnTrip, AgreeOnVehicle}
 use Rattle.pairing_rules.specs.Pairing.{pairing_rules}
 

@@ -1,5 +1,5 @@
 -- Lists of rows that have the same rows of each kind, in the same order, answer alike.
-use Rattle.std.specs.Prelude.{◌≡◌, ◌==◌, ℕ, Bool, true, false, ◌&&◌, ◌||◌, cond, List, [], ◌∷◌, Option, Some, None, filter, option_map, option_and_then, is_some, refl}
+use Rattle.std.specs.Prelude.{◌≡◌, ◌==◌, Bool, true, false, ◌&&◌, ◌||◌, cond, List, [], ◌∷◌, Some, filter, option_map, option_and_then, is_some, refl}
 use Rattle.std.proofs.Common.{ap, ◌∙◌, sym}
 use Rattle.std.specs.List.{list_any, find}
 use Rattle.feed_values.specs.Schema.{Value}

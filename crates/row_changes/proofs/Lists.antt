@@ -70,10 +70,6 @@ any-and p b (x ∷ xs) = ap (λ c. p x && b || c) (any-and p b xs) ∙ shared (p
     shared true false false = refl
     shared false c b = refl
 
--- one item done, one less to go
-pub one-less : {A : Type 0} (p : A → Bool) (new old all : Bool) (x : A) (xs rest : List A) → new ≡ (old || p x) → xs ≡ x ∷ rest → (old || list_any p xs) ≡ all → (new || list_any p rest) ≡ all
-one-less p new old all x xs rest n s h = ap (λ b. b || list_any p rest) n ∙ sym (or-apart old (p x) (list_any p rest)) ∙ ap (λ ys. old || list_any p ys) (sym s) ∙ h
-
 -- two lists gone through, in either order
 pub any-turned : {A B : Type 0} (p : A → B → Bool) (xs : List A) (ys : List B) → list_any (λ x. list_any (p x) ys) xs ≡ list_any (λ y. list_any (λ x. p x y) xs) ys
 any-turned {B = B} p [] ys = sym (any_false ys)
