@@ -3,7 +3,11 @@
 
 Runs `index_run` at 100,000, 300,000 and 1,000,000 rows, spread over a quarter as many trips and vehicles and then all under
 one trip and one vehicle. The time to make the rows and their texts is measured by itself and taken off; memory is the
-greatest resident size less that of a run with no row, by row, with the ids in it. It needs nothing but Python.
+greatest resident size less that of a run with no row, by row, with the ids in it.
+
+Then 2,000, 4,000 and 8,000 vehicle positions that share a trip come in one snapshot, each with a vehicle of its own, and the keys are
+found that they touch, less what decoding them takes. And rows whose ids never come again pass through an index that holds 1,000 at a time,
+from ten to ten thousand times as many in all: memory is to stay. It needs nothing but Python.
 """
 import os, subprocess, sys, time
 
@@ -32,6 +36,15 @@ def main():
                 seconds, size = run(work, rows, trips)
                 parts = 2 if work in ("take", "unstamp") else 1
                 print("%9d %9d %9s %9.2f %9d" % (rows, trips, work, seconds - parts * make, (size - empty) / rows))
+    if sys.argv[2:]:
+        return
+    print("%9s %9s %9s" % ("sharing", "work", "seconds"))
+    for rows in (2000, 4000, 8000):
+        print("%9d %9s %9.2f" % (rows, "touch", run("touch", rows, 1)[0] - run("come", rows, 1)[0]))
+    print("%9s %9s %9s %9s" % ("held", "passed", "seconds", "MiB"))
+    for times in (10, 100, 1000, 10000):
+        seconds, size = run("pass", 1000, times)
+        print("%9d %9d %9.2f %9.1f" % (1000, 1000 * times, seconds, (size - empty) / 1048576))
 
 
 main()

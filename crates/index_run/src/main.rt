@@ -2,9 +2,14 @@
 //!
 //! WORK is `make` (rows are made and let go), `add`, `take` (added and taken out again), `ask` (six answers for each row),
 //! `name` (the keys that each row names), `stamp` or `unstamp`. ROWS is how many rows there are, and TRIPS over how many trips
-//! and vehicles they spread. It prints a count of what it did.
+//! and vehicles they spread. With `pass` rows whose ids never come again are put in and taken out, ROWS of them there at a time and TRIPS times
+//! as many in all. `come` and `touch` are of entities (`touch`): vehicle positions are decoded, or held too and the keys found that they
+//! touch. It prints a count of what it did.
 #![tactic(auto)]
 
+mod touch;
+
+use crate::touch::{come, touched};
 use feed_values::Text;
 use history_rules::StampIndex;
 use pairing_rules::{PairIndex, PairRow};
@@ -12,7 +17,8 @@ use rule_table::{EntityKey, Kind, PairView};
 use std::alloc::{AllocError, Global};
 use std::{env, io};
 
-fn text(alloc: Global, letter: char, number: u32) -> Result<Text, AllocError> {
+/// A text of a letter and a number.
+pub fn text(alloc: Global, letter: char, number: u32) -> Result<Text, AllocError> {
     let spelled = format!(in alloc; "{letter}{number}")?;
     let mut text = Text::new(alloc);
     text.push(spelled.as_str())?;
@@ -27,12 +33,13 @@ fn kind_of(number: u32) -> Kind {
     }
 }
 
-// Neighbouring numbers lie far apart, as ids do in a feed.
-fn scattered(number: u32) -> u32 {
+/// Neighbouring numbers lie far apart, as ids do in a feed.
+pub fn scattered(number: u32) -> u32 {
     number.wrapping_mul(2654435761)
 }
 
-fn share(number: u32, parts: u32) -> u32 {
+/// The part that a number falls to.
+pub fn share(number: u32, parts: u32) -> u32 {
     match number.checked_rem(parts) {
         Some(rest) => rest,
         None => 0,
@@ -51,7 +58,8 @@ fn row(alloc: Global, number: u32, trips: u32) -> Result<PairRow, AllocError> {
     })
 }
 
-fn key(alloc: Global, number: u32) -> Result<EntityKey, AllocError> {
+/// The key of an entity by number.
+pub fn key(alloc: Global, number: u32) -> Result<EntityKey, AllocError> {
     Ok(EntityKey {
         feed: (number % 16) as u8,
         id: text(alloc, 'e', scattered(number))?,
@@ -87,6 +95,31 @@ fn emptied(
     let mut index = index;
     for number in 0..rows {
         index.take_out(&row(alloc, number, trips)?);
+    }
+    Ok(index)
+}
+
+// Takes out the row that was put in some rows before.
+fn let_go(
+    alloc: Global,
+    index: &mut PairIndex,
+    number: u32,
+    before: u32,
+) -> Result<(), AllocError> {
+    match number.checked_sub(before) {
+        Some(old) => {
+            index.take_out(&row(alloc, old, u32::MAX)?);
+            Ok(())
+        }
+        None => Ok(()),
+    }
+}
+
+fn passed(alloc: Global, rows: u32, times: u32) -> Result<PairIndex, AllocError> {
+    let mut index = PairIndex::new(alloc);
+    for number in 0..rows.saturating_mul(times) {
+        let_go(alloc, &mut index, number, rows)?;
+        index = index.add(row(alloc, number, u32::MAX)?)?;
     }
     Ok(index)
 }
@@ -176,6 +209,9 @@ fn done(alloc: Global, work: &str, rows: u32, trips: u32) -> Result<u64, AllocEr
         }
         "ask" => asked(alloc, &filled(alloc, rows, trips)?, rows, trips),
         "name" => named(alloc, &filled(alloc, rows, trips)?, rows, trips),
+        "pass" => Ok(left(&passed(alloc, rows, trips)?)),
+        "come" => come(alloc, rows, trips),
+        "touch" => touched(alloc, rows, trips),
         "stamp" => above(alloc, &stamped(alloc, rows, trips)?),
         "unstamp" => {
             let index = stamped(alloc, rows, trips)?;

@@ -1,0 +1,58 @@
+//! Asks of the rows and timestamps that are held from snapshot to snapshot, and of the keys that one touches, whose cases are the texts in
+//! data/ that the arguments name.
+//!
+//! - `entities`: entities by their bytes
+//! - `keys`: keys of entities in text
+//! - `held`: the asks
+#![tactic(auto)]
+
+mod entities;
+mod held;
+mod keys;
+
+use crate::held::HeldAsks;
+use cases::{Asked, judge, say, word_list};
+use std::alloc::{AllocError, Global};
+use std::{env, fs, io};
+
+// What the asks of one text are put to.
+#[derive(Drop)]
+struct RowAsks {
+    alloc: Global,
+    held: HeldAsks,
+}
+
+impl Asked for RowAsks {
+    fn begin(&mut self) {
+        self.held.begin();
+    }
+
+    fn answer(&mut self, ask: &str, given: &[u8], answer: &mut Vec<u8>) -> Result<(), AllocError> {
+        let words = word_list(self.alloc, ask)?;
+        if self.held.answer(&words, given, answer)? {
+            return Ok(());
+        }
+        say(answer, "no such ask")
+    }
+}
+
+fn judged(alloc: Global, name: &str, text: &str) -> Result<String, AllocError> {
+    let mut asks = RowAsks {
+        alloc,
+        held: HeldAsks::new(alloc),
+    };
+    judge(alloc, name, text, &mut asks)
+}
+
+fn judge_file(rt: &HostRuntime, name: &str) -> io::Result<()> {
+    let text = fs::read_to_string(rt, name)?;
+    let told = judged(rt.alloc(), name, text.as_str())?;
+    print!(rt; "{told}")
+}
+
+fn main(rt: HostRuntime) -> io::Result<()> {
+    for name in env::args(&rt)?.skip(1) {
+        judge_file(&rt, name.as_str())?;
+    }
+    Ok(())
+}

@@ -1,0 +1,14 @@
+use Rattle.std.proofs.Common.{◌&&◌, ◌||◌, ℕ, List, ap, ◌∙◌, sym}
+use Rattle.std.specs.BTreeSet.{contains}
+use Rattle.std.specs.List.{list_any}
+use Rattle.std.specs.Map.Iter.{deref}
+use Rattle.std.proofs.lemmas.Map.Iter.{rest_more}
+use Rattle.rule_table.specs.Order.{key_cmp, same_key}
+use Rattle.rule_table.specs.Pairs.{is_id}
+use Rattle.pairing_rules.proofs.Members.{one-less}
+use Rattle.row_changes.proofs.touched.put_vehicles.Goals as goal
+
+pub loop-vehicle-preserved : goal.loop-vehicle-preserved
+loop-vehicle-preserved c = λ key.
+    one-less (λ (q : List ℕ). list_any (λ r. is_id q r.vehicle && same_key key r.key) c.args.pairs.now) _ _ _ c.in-Some.vehicle.now _ c.next.new.self (c.in_ok-put_vehicle.ensures key)
+    (rest_more deref _ c.next.new.self c.next.result c.in-Some.vehicle c.in-Some.is c.next.ensures.steps) (c.loop-vehicle.invariant key)
