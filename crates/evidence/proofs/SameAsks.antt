@@ -5,7 +5,8 @@ use Rattle.std.proofs.lemmas.Bool.{and_parts, and_from, eqb-true}
 use Rattle.std.proofs.lemmas.Option.{same_Some}
 use Rattle.std.proofs.lemmas.Slice.Eq.{bytes_eq-Decides}
 use Rattle.feed_values.specs.declared.slot.Slot.{Slot}
-use Rattle.feed_values.specs.declared.slot.Slot.TheVariants.{S1, S2, S3, S10, S11, S20, S21, S22, S23, S24, S25, S26, S27, S28, S29, S30, S31, S32, S33, S34, S35, S36, S37, S38, S39, S40, S50, S51, S52, S53, S54, S55, S56, S57, S58, S59, S60, S70, S71, S72, S73, S74, S75, S76, S77, S78, S79, S80, S81, S82, S83, S84, S85}
+use Rattle.feed_values.specs.declared.slot.Slot.TheVariants.{S1}
+use Rattle.feed_values.specs.SlotNames.{all_slots}
 use Rattle.feed_values.specs.declared.path.Path.{Path}
 use Rattle.rule_table.specs.declared.ask.Ask.{Ask}
 use Rattle.rule_table.specs.declared.ask.Ask.TheVariants as ask
@@ -19,14 +20,11 @@ pub never : {P : Type 0} → false ≡ true → P
 never e = absurd (cc)
 
 -- ---- slots
-all_slots : List Slot
-all_slots = S1 ∷ S2 ∷ S3 ∷ S10 ∷ S11 ∷ S20 ∷ S21 ∷ S22 ∷ S23 ∷ S24 ∷ S25 ∷ S26 ∷ S27 ∷ S28 ∷ S29 ∷ S30 ∷ S31 ∷ S32 ∷ S33 ∷ S34 ∷ S35 ∷ S36 ∷ S37 ∷ S38 ∷ S39 ∷ S40 ∷ S50 ∷ S51 ∷ S52 ∷ S53 ∷ S54 ∷ S55 ∷ S56 ∷ S57 ∷ S58 ∷ S59 ∷ S60 ∷ S70 ∷ S71 ∷ S72 ∷ S73 ∷ S74 ∷ S75 ∷ S76 ∷ S77 ∷ S78 ∷ S79 ∷ S80 ∷ S81 ∷ S82 ∷ S83 ∷ S84 ∷ S85 ∷ []
-
 with_number : ℕ → Option Slot
 with_number n = find (λ slot. slot_number slot == n) all_slots
 
 numbered : (s : Slot) → with_number (slot_number s) ≡ Some s
-unfolding with_number all_slots
+unfolding with_number
 numbered S1 = refl
 numbered _ = refl
 

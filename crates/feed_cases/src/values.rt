@@ -14,6 +14,7 @@ fn blank_header(alloc: Global) -> FeedHeader {
         gtfs_realtime_version: Text::new(alloc),
         incrementality: None,
         timestamp: None,
+        feed_version: None,
         unknown: Items::new(alloc),
     }
 }

@@ -129,6 +129,7 @@ scalar_bytes schema.I64 z = tt
 scalar_bytes schema.Bits32 z = tt
 scalar_bytes schema.Bits64 z = tt
 scalar_bytes (schema.Enum first last) z = tt
+scalar_bytes (schema.EnumOr first last more) z = tt
 
 kept_bytes : (x : wire.WireValue) → NumbersFit x → BytesIn x
 kept_bytes (Varint n) h = tt
@@ -199,6 +200,7 @@ no_payload_in schema.I64 z = refl
 no_payload_in schema.Bits32 z = refl
 no_payload_in schema.Bits64 z = refl
 no_payload_in (schema.Enum first last) z = refl
+no_payload_in (schema.EnumOr first last more) z = refl
 
 none_of : (b : Bool) (o : Option (List ℕ)) → o ≡ None → is_some (cond b o None) ≡ false
 none_of true o e = rw e refl

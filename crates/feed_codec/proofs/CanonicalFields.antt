@@ -148,6 +148,8 @@ scalar_fits schema.Bits64 (pos n) h = h
 scalar_fits schema.Bits64 (negsuc n) h = absurd h
 scalar_fits (schema.Enum first last) (pos n) h = omega (arith, h.2)
 scalar_fits (schema.Enum first last) (negsuc n) h = absurd h
+scalar_fits (schema.EnumOr first last more) (pos n) h = omega (arith, h.1)
+scalar_fits (schema.EnumOr first last more) (negsuc n) h = absurd h
 
 scalar_writes : (n low : ℕ) (t : Scalar) (z : ℤ) → low < n → n < 2 ^ 29 → CanWrite (field_of n (scalar_value t z))
 scalar_writes n low schema.Bool z lt small = record { positive = omega arith; small = small; group = tt }
@@ -158,6 +160,7 @@ scalar_writes n low schema.I64 z lt small = record { positive = omega arith; sma
 scalar_writes n low schema.Bits32 z lt small = record { positive = omega arith; small = small; group = tt }
 scalar_writes n low schema.Bits64 z lt small = record { positive = omega arith; small = small; group = tt }
 scalar_writes n low (schema.Enum first last) z lt small = record { positive = omega arith; small = small; group = tt }
+scalar_writes n low (schema.EnumOr first last more) z lt small = record { positive = omega arith; small = small; group = tt }
 
 payload_fits : (n low : ℕ) (p : List ℕ) → low < n → n < 2 ^ 29 → Fits (field_of n (Len p))
 payload_fits n low p lt small = (record { positive = omega arith; small = small; group = tt }, tt)

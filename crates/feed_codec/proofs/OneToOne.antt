@@ -16,12 +16,14 @@ use Rattle.feed_values.specs.declared.alert.Alert.{Alert}
 use Rattle.feed_values.specs.declared.position.Position.{Position}
 use Rattle.feed_values.specs.declared.vehicle_position.VehiclePosition.{VehiclePosition}
 use Rattle.feed_values.specs.declared.stop_time_event.StopTimeEvent.{StopTimeEvent}
+use Rattle.feed_values.specs.declared.stop_time_properties.StopTimeProperties.{StopTimeProperties}
 use Rattle.feed_values.specs.declared.stop_time_update.StopTimeUpdate.{StopTimeUpdate}
+use Rattle.feed_values.specs.declared.trip_properties.TripProperties.{TripProperties}
 use Rattle.feed_values.specs.declared.trip_update.TripUpdate.{TripUpdate}
 use Rattle.feed_values.specs.declared.entity.Entity.{Entity}
 use Rattle.feed_values.specs.declared.feed_header.FeedHeader.{FeedHeader}
 use Rattle.feed_values.specs.declared.feed_message.FeedMessage.{FeedMessage}
-use Rattle.feed_values.specs.Views.{unknown_value, unknown_field, natural, truth_number, translation_value, translated_string_value, time_range_value, trip_descriptor_value, vehicle_descriptor_value, entity_selector_value, alert_value, position_value, vehicle_position_value, stop_time_event_value, stop_time_update_value, trip_update_value, entity_value, feed_header_value, feed_message_value}
+use Rattle.feed_values.specs.Views.{unknown_value, unknown_field, natural, truth_number, translation_value, translated_string_value, time_range_value, trip_descriptor_value, vehicle_descriptor_value, entity_selector_value, alert_value, position_value, vehicle_position_value, stop_time_event_value, stop_time_properties_value, stop_time_update_value, trip_properties_value, trip_update_value, entity_value, feed_header_value, feed_message_value}
 use Rattle.feed_codec.specs.EncodingLaws.{IsOneToOne}
 
 pos_one : IsOneToOne pos
@@ -179,23 +181,41 @@ stop_time_event_same x y e0 e1 e2 e3 = rw (e0, e1, e2, e3) refl
 pub stop_time_event_one : IsOneToOne stop_time_event_value
 stop_time_event_one x y e = stop_time_event_same x y (ap (λ v. v.0) e) (ap (λ v. v.1.0) e) (ap (λ v. v.1.1.0) e) (list_one unknown_field unknown_one x.unknown y.unknown (ap (λ v. v.1.1.1) e))
 
-abbrev stop_time_update_with : Option ℕ → Option StopTimeEvent → Option StopTimeEvent → Option (List ℕ) → Option ℕ → List Unknown → StopTimeUpdate
-stop_time_update_with a0 a1 a2 a3 a4 a5 = record { stop_sequence = a0; arrival = a1; departure = a2; stop_id = a3; schedule_relationship = a4; unknown = a5 }
+abbrev stop_time_properties_with : Option (List ℕ) → List Unknown → StopTimeProperties
+stop_time_properties_with a0 a1 = record { assigned_stop_id = a0; unknown = a1 }
 
-stop_time_update_same : (x y : StopTimeUpdate) → x.stop_sequence ≡ y.stop_sequence → x.arrival ≡ y.arrival → x.departure ≡ y.departure → x.stop_id ≡ y.stop_id → x.schedule_relationship ≡ y.schedule_relationship → x.unknown ≡ y.unknown → stop_time_update_with x.stop_sequence x.arrival x.departure x.stop_id x.schedule_relationship x.unknown ≡ stop_time_update_with y.stop_sequence y.arrival y.departure y.stop_id y.schedule_relationship y.unknown
-stop_time_update_same x y e0 e1 e2 e3 e4 e5 = rw (e0, e1, e2, e3, e4, e5) refl
+stop_time_properties_same : (x y : StopTimeProperties) → x.assigned_stop_id ≡ y.assigned_stop_id → x.unknown ≡ y.unknown → stop_time_properties_with x.assigned_stop_id x.unknown ≡ stop_time_properties_with y.assigned_stop_id y.unknown
+stop_time_properties_same x y e0 e1 = rw (e0, e1) refl
+
+pub stop_time_properties_one : IsOneToOne stop_time_properties_value
+stop_time_properties_one x y e = stop_time_properties_same x y (ap (λ v. v.0) e) (list_one unknown_field unknown_one x.unknown y.unknown (ap (λ v. v.1) e))
+
+abbrev stop_time_update_with : Option ℕ → Option StopTimeEvent → Option StopTimeEvent → Option (List ℕ) → Option ℕ → Option StopTimeProperties → List Unknown → StopTimeUpdate
+stop_time_update_with a0 a1 a2 a3 a4 a5 a6 = record { stop_sequence = a0; arrival = a1; departure = a2; stop_id = a3; schedule_relationship = a4; stop_time_properties = a5; unknown = a6 }
+
+stop_time_update_same : (x y : StopTimeUpdate) → x.stop_sequence ≡ y.stop_sequence → x.arrival ≡ y.arrival → x.departure ≡ y.departure → x.stop_id ≡ y.stop_id → x.schedule_relationship ≡ y.schedule_relationship → x.stop_time_properties ≡ y.stop_time_properties → x.unknown ≡ y.unknown → stop_time_update_with x.stop_sequence x.arrival x.departure x.stop_id x.schedule_relationship x.stop_time_properties x.unknown ≡ stop_time_update_with y.stop_sequence y.arrival y.departure y.stop_id y.schedule_relationship y.stop_time_properties y.unknown
+stop_time_update_same x y e0 e1 e2 e3 e4 e5 e6 = rw (e0, e1, e2, e3, e4, e5, e6) refl
 
 pub stop_time_update_one : IsOneToOne stop_time_update_value
-stop_time_update_one x y e = stop_time_update_same x y (natural_one x.stop_sequence y.stop_sequence (ap (λ v. v.0) e)) (option_one stop_time_event_value stop_time_event_one x.arrival y.arrival (ap (λ v. v.1.0) e)) (option_one stop_time_event_value stop_time_event_one x.departure y.departure (ap (λ v. v.1.1.0) e)) (ap (λ v. v.1.1.1.0) e) (natural_one x.schedule_relationship y.schedule_relationship (ap (λ v. v.1.1.1.1.0) e)) (list_one unknown_field unknown_one x.unknown y.unknown (ap (λ v. v.1.1.1.1.1) e))
+stop_time_update_one x y e = stop_time_update_same x y (natural_one x.stop_sequence y.stop_sequence (ap (λ v. v.0) e)) (option_one stop_time_event_value stop_time_event_one x.arrival y.arrival (ap (λ v. v.1.0) e)) (option_one stop_time_event_value stop_time_event_one x.departure y.departure (ap (λ v. v.1.1.0) e)) (ap (λ v. v.1.1.1.0) e) (natural_one x.schedule_relationship y.schedule_relationship (ap (λ v. v.1.1.1.1.0) e)) (option_one stop_time_properties_value stop_time_properties_one x.stop_time_properties y.stop_time_properties (ap (λ v. v.1.1.1.1.1.0) e)) (list_one unknown_field unknown_one x.unknown y.unknown (ap (λ v. v.1.1.1.1.1.1) e))
 
-abbrev trip_update_with : TripDescriptor → List StopTimeUpdate → Option VehicleDescriptor → Option ℕ → Option ℤ → List Unknown → TripUpdate
-trip_update_with a0 a1 a2 a3 a4 a5 = record { trip = a0; stop_time_update = a1; vehicle = a2; timestamp = a3; delay = a4; unknown = a5 }
+abbrev trip_properties_with : Option (List ℕ) → Option (List ℕ) → Option (List ℕ) → List Unknown → TripProperties
+trip_properties_with a0 a1 a2 a3 = record { trip_id = a0; start_date = a1; start_time = a2; unknown = a3 }
 
-trip_update_same : (x y : TripUpdate) → x.trip ≡ y.trip → x.stop_time_update ≡ y.stop_time_update → x.vehicle ≡ y.vehicle → x.timestamp ≡ y.timestamp → x.delay ≡ y.delay → x.unknown ≡ y.unknown → trip_update_with x.trip x.stop_time_update x.vehicle x.timestamp x.delay x.unknown ≡ trip_update_with y.trip y.stop_time_update y.vehicle y.timestamp y.delay y.unknown
-trip_update_same x y e0 e1 e2 e3 e4 e5 = rw (e0, e1, e2, e3, e4, e5) refl
+trip_properties_same : (x y : TripProperties) → x.trip_id ≡ y.trip_id → x.start_date ≡ y.start_date → x.start_time ≡ y.start_time → x.unknown ≡ y.unknown → trip_properties_with x.trip_id x.start_date x.start_time x.unknown ≡ trip_properties_with y.trip_id y.start_date y.start_time y.unknown
+trip_properties_same x y e0 e1 e2 e3 = rw (e0, e1, e2, e3) refl
+
+pub trip_properties_one : IsOneToOne trip_properties_value
+trip_properties_one x y e = trip_properties_same x y (ap (λ v. v.0) e) (ap (λ v. v.1.0) e) (ap (λ v. v.1.1.0) e) (list_one unknown_field unknown_one x.unknown y.unknown (ap (λ v. v.1.1.1) e))
+
+abbrev trip_update_with : TripDescriptor → List StopTimeUpdate → Option VehicleDescriptor → Option ℕ → Option ℤ → Option TripProperties → List Unknown → TripUpdate
+trip_update_with a0 a1 a2 a3 a4 a5 a6 = record { trip = a0; stop_time_update = a1; vehicle = a2; timestamp = a3; delay = a4; trip_properties = a5; unknown = a6 }
+
+trip_update_same : (x y : TripUpdate) → x.trip ≡ y.trip → x.stop_time_update ≡ y.stop_time_update → x.vehicle ≡ y.vehicle → x.timestamp ≡ y.timestamp → x.delay ≡ y.delay → x.trip_properties ≡ y.trip_properties → x.unknown ≡ y.unknown → trip_update_with x.trip x.stop_time_update x.vehicle x.timestamp x.delay x.trip_properties x.unknown ≡ trip_update_with y.trip y.stop_time_update y.vehicle y.timestamp y.delay y.trip_properties y.unknown
+trip_update_same x y e0 e1 e2 e3 e4 e5 e6 = rw (e0, e1, e2, e3, e4, e5, e6) refl
 
 pub trip_update_one : IsOneToOne trip_update_value
-trip_update_one x y e = trip_update_same x y (trip_descriptor_one x.trip y.trip (ap (λ v. v.0) e)) (list_one stop_time_update_value stop_time_update_one x.stop_time_update y.stop_time_update (ap (λ v. v.1.0) e)) (option_one vehicle_descriptor_value vehicle_descriptor_one x.vehicle y.vehicle (ap (λ v. v.1.1.0) e)) (natural_one x.timestamp y.timestamp (ap (λ v. v.1.1.1.0) e)) (ap (λ v. v.1.1.1.1.0) e) (list_one unknown_field unknown_one x.unknown y.unknown (ap (λ v. v.1.1.1.1.1) e))
+trip_update_one x y e = trip_update_same x y (trip_descriptor_one x.trip y.trip (ap (λ v. v.0) e)) (list_one stop_time_update_value stop_time_update_one x.stop_time_update y.stop_time_update (ap (λ v. v.1.0) e)) (option_one vehicle_descriptor_value vehicle_descriptor_one x.vehicle y.vehicle (ap (λ v. v.1.1.0) e)) (natural_one x.timestamp y.timestamp (ap (λ v. v.1.1.1.0) e)) (ap (λ v. v.1.1.1.1.0) e) (option_one trip_properties_value trip_properties_one x.trip_properties y.trip_properties (ap (λ v. v.1.1.1.1.1.0) e)) (list_one unknown_field unknown_one x.unknown y.unknown (ap (λ v. v.1.1.1.1.1.1) e))
 
 abbrev entity_with : List ℕ → Option Bool → Option TripUpdate → Option VehiclePosition → Option Alert → List Unknown → Entity
 entity_with a0 a1 a2 a3 a4 a5 = record { id = a0; is_deleted = a1; trip_update = a2; vehicle = a3; alert = a4; unknown = a5 }
@@ -206,14 +226,14 @@ entity_same x y e0 e1 e2 e3 e4 e5 = rw (e0, e1, e2, e3, e4, e5) refl
 pub entity_one : IsOneToOne entity_value
 entity_one x y e = entity_same x y (ap (λ v. v.0) e) (option_one truth_number truth_one x.is_deleted y.is_deleted (ap (λ v. v.1.0) e)) (option_one trip_update_value trip_update_one x.trip_update y.trip_update (ap (λ v. v.1.1.0) e)) (option_one vehicle_position_value vehicle_position_one x.vehicle y.vehicle (ap (λ v. v.1.1.1.0) e)) (option_one alert_value alert_one x.alert y.alert (ap (λ v. v.1.1.1.1.0) e)) (list_one unknown_field unknown_one x.unknown y.unknown (ap (λ v. v.1.1.1.1.1) e))
 
-abbrev feed_header_with : List ℕ → Option ℕ → Option ℕ → List Unknown → FeedHeader
-feed_header_with a0 a1 a2 a3 = record { gtfs_realtime_version = a0; incrementality = a1; timestamp = a2; unknown = a3 }
+abbrev feed_header_with : List ℕ → Option ℕ → Option ℕ → Option (List ℕ) → List Unknown → FeedHeader
+feed_header_with a0 a1 a2 a3 a4 = record { gtfs_realtime_version = a0; incrementality = a1; timestamp = a2; feed_version = a3; unknown = a4 }
 
-feed_header_same : (x y : FeedHeader) → x.gtfs_realtime_version ≡ y.gtfs_realtime_version → x.incrementality ≡ y.incrementality → x.timestamp ≡ y.timestamp → x.unknown ≡ y.unknown → feed_header_with x.gtfs_realtime_version x.incrementality x.timestamp x.unknown ≡ feed_header_with y.gtfs_realtime_version y.incrementality y.timestamp y.unknown
-feed_header_same x y e0 e1 e2 e3 = rw (e0, e1, e2, e3) refl
+feed_header_same : (x y : FeedHeader) → x.gtfs_realtime_version ≡ y.gtfs_realtime_version → x.incrementality ≡ y.incrementality → x.timestamp ≡ y.timestamp → x.feed_version ≡ y.feed_version → x.unknown ≡ y.unknown → feed_header_with x.gtfs_realtime_version x.incrementality x.timestamp x.feed_version x.unknown ≡ feed_header_with y.gtfs_realtime_version y.incrementality y.timestamp y.feed_version y.unknown
+feed_header_same x y e0 e1 e2 e3 e4 = rw (e0, e1, e2, e3, e4) refl
 
 pub feed_header_one : IsOneToOne feed_header_value
-feed_header_one x y e = feed_header_same x y (ap (λ v. v.0) e) (natural_one x.incrementality y.incrementality (ap (λ v. v.1.0) e)) (natural_one x.timestamp y.timestamp (ap (λ v. v.1.1.0) e)) (list_one unknown_field unknown_one x.unknown y.unknown (ap (λ v. v.1.1.1) e))
+feed_header_one x y e = feed_header_same x y (ap (λ v. v.0) e) (natural_one x.incrementality y.incrementality (ap (λ v. v.1.0) e)) (natural_one x.timestamp y.timestamp (ap (λ v. v.1.1.0) e)) (ap (λ v. v.1.1.1.0) e) (list_one unknown_field unknown_one x.unknown y.unknown (ap (λ v. v.1.1.1.1) e))
 
 abbrev feed_message_with : FeedHeader → List Entity → List Unknown → FeedMessage
 feed_message_with a0 a1 a2 = record { header = a0; entity = a1; unknown = a2 }

@@ -1,5 +1,5 @@
 -- The canonical bytes of a message mean the message.
-use Rattle.std.proofs.Common.{◌≡◌, ℕ, ◌≤◌, ◌<◌, ◌^◌, ◌%◌, zero, suc, ℤ, pos, negsuc, Bool, true, false, not, ◌||◌, List, [], ◌∷◌, ◌++◌, map, length, Option, Some, None, refl, sym, ap, subst, ◌∙◌, append_assoc, arith}
+use Rattle.std.proofs.Common.{◌≡◌, ℕ, ◌≤◌, ◌<◌, ◌^◌, ◌%◌, zero, suc, ℤ, pos, negsuc, Bool, true, false, not, ◌||◌, ◌&&◌, ◌⊎◌, inl, inr, eqb, leb, List, [], ◌∷◌, ◌++◌, map, length, Option, Some, None, refl, sym, ap, subst, ◌∙◌, append_assoc, arith}
 use Rattle.std.specs.Prelude.{FitsSigned}
 use Rattle.std.specs.Int.{w32, w64, cast_signed, cast_unsigned}
 use Rattle.std.proofs.lemmas.Int.{to_z-of_z}
@@ -67,6 +67,14 @@ low_half : (z : ℤ) → FitsSigned w32 z → cast_unsigned w64 z % 2 ^ 32 ≡ c
 low_half (pos n) h = omega arith
 low_half (negsuc n) h = omega arith
 
+or_true : (a b : Bool) → b ≡ true → (a || b) ≡ true
+or_true true b e = refl
+or_true false b e = e
+
+or_more : (low high more n : ℕ) → ((low ≤ n) × (n ≤ high)) ⊎ (n ≡ more) → ((leb low n && leb n high) || eqb n more) ≡ true
+or_more low high more n (inl h) = rw (le-leb low n h.0, le-leb n high h.1) refl
+or_more low high more n (inr e) = or_true (leb low n && leb n high) (eqb n more) (eq-eqb n more e)
+
 pub number_back : (t : Scalar) (z : ℤ) → InRange t z → scalar_in t (scalar_value t z) ≡ Some z
 number_back schema.Bool (pos zero) h = refl
 number_back schema.Bool (pos (suc zero)) h = refl
@@ -84,6 +92,8 @@ number_back schema.Bits64 (pos n) h = refl
 number_back schema.Bits64 (negsuc n) h = absurd h
 number_back (schema.Enum low high) (pos n) h = rw (mod_small n (2 ^ 32) h.2, le-leb low n h.0, le-leb n high h.1) refl
 number_back (schema.Enum low high) (negsuc n) h = absurd h
+number_back (schema.EnumOr low high more) (pos n) h = rw (mod_small n (2 ^ 32) h.1, or_more low high more n h.0) refl
+number_back (schema.EnumOr low high more) (negsuc n) h = absurd h
 
 -- ---- the law
 

@@ -7,17 +7,19 @@ use Rattle.rt_wire.specs.Fields.{WireField, IsBytes}
 use Rattle.feed_values.specs.declared.required.Required.TheVariants as required
 use Rattle.feed_values.specs.declared.feed_message.FeedMessage.{FeedMessage}
 use Rattle.feed_values.specs.declared.entity.Entity.{Entity}
+use Rattle.feed_values.specs.declared.stop_time_properties.StopTimeProperties.{StopTimeProperties}
+use Rattle.feed_values.specs.declared.trip_properties.TripProperties.{TripProperties}
 use Rattle.feed_values.specs.Schema.{Schema, Value, Needed, held, blank, Rises}
-use Rattle.feed_values.specs.Messages.{feed_message, feed_header, entity}
+use Rattle.feed_values.specs.Messages.{feed_message, feed_header, entity, trip_properties, stop_time_properties}
 use Rattle.feed_values.specs.Meaning.{fields, in_slot, payload_in, given, joined, slots_of, meaning}
 use Rattle.feed_values.specs.Accepted.{header_fields, is_one, is_differential, snapshot_limit}
 use Rattle.feed_values.specs.Snapshot.{snapshot_value, incrementality_of}
-use Rattle.feed_values.specs.Views.{feed_message_value, entity_value}
+use Rattle.feed_values.specs.Views.{feed_message_value, entity_value, trip_properties_value, stop_time_properties_value}
 use Rattle.feed_values.specs.Canonical.{canonical}
 use Rattle.feed_values.specs.WellFormed.{IsWellFormed, IsWellFormedFeed}
 use Rattle.feed_codec.specs.declared.codec_fault.CodecFault.{CodecFault}
 use Rattle.feed_codec.specs.declared.codec_fault.CodecFault.TheVariants.{Memory, Refused}
-use Rattle.feed_codec.specs.Refusal.{refusal, entity_fault}
+use Rattle.feed_codec.specs.Refusal.{refusal, entity_fault, first_fault}
 use Rattle.feed_codec.specs.Decoded.{Decodes}
 use Rattle.feed_codec.specs.Encoding.{TagsFit}
 use Rattle.feed_codec.specs.EncodingLaws.{Means, CanonicalMeansValue, AcceptedIsWellFormed, EncodedDecodes, CanonicalDecides, ValuesAreFaithful}
@@ -29,7 +31,7 @@ use Rattle.feed_codec.proofs.Returns.{returns_of}
 use Rattle.feed_codec.proofs.CanonicalBytes.{canonical_bytes, canonical_message}
 use Rattle.feed_codec.proofs.WellFormedValues.{DefaultsFit, meaning_fits}
 use Rattle.feed_codec.proofs.Sizes.{IsSmall, meaning_long}
-use Rattle.feed_codec.proofs.OneToOne.{unknown_one, translation_one, translated_string_one, time_range_one, trip_descriptor_one, vehicle_descriptor_one, entity_selector_one, alert_one, position_one, vehicle_position_one, stop_time_event_one, stop_time_update_one, trip_update_one, entity_one, feed_header_one, feed_message_one}
+use Rattle.feed_codec.proofs.OneToOne.{unknown_one, translation_one, translated_string_one, time_range_one, trip_descriptor_one, vehicle_descriptor_one, entity_selector_one, alert_one, position_one, vehicle_position_one, stop_time_event_one, stop_time_properties_one, stop_time_update_one, trip_properties_one, trip_update_one, entity_one, feed_header_one, feed_message_one}
 
 -- ---- the table of a snapshot
 
@@ -98,6 +100,18 @@ pub entity_fits : (p : List ℕ) (answer : Result Entity AllocError) → IsBytes
 entity_fits p (Err a) ok e is = tt
 entity_fits p (Ok found) ok e is = subst (λ (v : Value entity). IsWellFormed entity v) (sym is) (meaning_fits entity p entity_rises entity_defaults ok ((bytes_agree entity).none p ok (complete_entity p e).0))
 
+-- ---- properties by themselves
+
+properties_fit : {M : Type 0} (s : Schema) (value : M → Value s) (p : List ℕ) (answer : Result M CodecFault) → Rises 0 s → DefaultsFit s → IsBytes p → Decodes value answer (first_fault s p) (meaning s (fields p)) → IfOk answer (λ found. IsWellFormed s (value found))
+properties_fit s value p (Err e) rises defaults ok d = tt
+properties_fit s value p (Ok found) rises defaults ok d = subst (λ (v : Value s). IsWellFormed s v) (sym d.1) (meaning_fits s p rises defaults ok ((bytes_agree s).none p ok d.0))
+
+pub trip_properties_fit : (p : List ℕ) (answer : Result TripProperties CodecFault) → IsBytes p → Decodes trip_properties_value answer (first_fault trip_properties p) (meaning trip_properties (fields p)) → IfOk answer (λ found. IsWellFormed trip_properties (trip_properties_value found))
+trip_properties_fit p answer ok d = properties_fit trip_properties trip_properties_value p answer (search rules) (search rules) ok d
+
+pub stop_time_properties_fit : (p : List ℕ) (answer : Result StopTimeProperties CodecFault) → IsBytes p → Decodes stop_time_properties_value answer (first_fault stop_time_properties p) (meaning stop_time_properties (fields p)) → IfOk answer (λ found. IsWellFormed stop_time_properties (stop_time_properties_value found))
+stop_time_properties_fit p answer ok d = properties_fit stop_time_properties stop_time_properties_value p answer (search rules) (search rules) ok d
+
 pub accepted_is_well_formed : AcceptedIsWellFormed
 accepted_is_well_formed = record { value = accepted_value; short = accepted_short; decoded = decoded_value }
 
@@ -161,7 +175,9 @@ values_are_faithful = record {
   position = position_one;
   vehicle_position = vehicle_position_one;
   stop_time_event = stop_time_event_one;
+  stop_time_properties = stop_time_properties_one;
   stop_time_update = stop_time_update_one;
+  trip_properties = trip_properties_one;
   trip_update = trip_update_one;
   entity = entity_one;
   feed_header = feed_header_one;

@@ -134,6 +134,7 @@ scalar_long n schema.I64 z = slot_long n (scalar_value schema.I64 z)
 scalar_long n schema.Bits32 z = slot_long n (scalar_value schema.Bits32 z)
 scalar_long n schema.Bits64 z = slot_long n (scalar_value schema.Bits64 z)
 scalar_long n (schema.Enum first last) z = slot_long n (scalar_value (schema.Enum first last) z)
+scalar_long n (schema.EnumOr first last more) z = slot_long n (scalar_value (schema.EnumOr first last more) z)
 
 blank_held : {A : Type 0} (presence : Presence) (none : A) (write : A → List ℕ) (size : ℕ) → length (write none) ≤ size → length (where_held write (present presence (held presence none None))) ≤ needed_size presence size
 blank_held Optional none write size le = omega arith

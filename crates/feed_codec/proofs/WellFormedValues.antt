@@ -1,5 +1,5 @@
 -- What fields mean is well formed, where they are spelled by bytes and are whole.
-use Rattle.std.proofs.Common.{◌≡◌, ℕ, ◌%◌, ◌^◌, ◌<◌, ℤ, pos, Bool, true, false, not, cond, eqb, leb, ◌&&◌, List, [], ◌∷◌, ◌++◌, map, Option, Some, None, refl, subst, arith}
+use Rattle.std.proofs.Common.{◌≡◌, ℕ, ◌%◌, ◌^◌, ◌<◌, ℤ, pos, Bool, true, false, not, cond, eqb, leb, ◌&&◌, ◌||◌, ◌⊎◌, inl, inr, List, [], ◌∷◌, ◌++◌, map, Option, Some, None, refl, subst, arith}
 use Rattle.std.specs.Prelude.{IfSome}
 use Rattle.std.specs.Bool.{MatchBool}
 use Rattle.std.specs.Option.{option_or}
@@ -63,6 +63,18 @@ recognised : (first last m : ℕ) (b : Bool) → (leb first m && leb m last) ≡
 recognised first last m true e lt = let t = both_true (leb first m) (leb m last) e in (leb-true first m t.0, leb-true m last t.1, lt)
 recognised first last m false e lt = tt
 
+one_true : (a b : Bool) → (a || b) ≡ true → (a ≡ true) ⊎ (b ≡ true)
+one_true true b e = inl refl
+one_true false b e = inr e
+
+is_among : (first last more m : ℕ) → ((leb first m && leb m last) ≡ true) ⊎ (eqb m more ≡ true) → ((first ≤ m) × (m ≤ last)) ⊎ (m ≡ more)
+is_among first last more m (inl e) = let t = both_true (leb first m) (leb m last) e in inl (leb-true first m t.0, leb-true m last t.1)
+is_among first last more m (inr e) = inr (eqb-true m more e)
+
+recognised_or : (first last more m : ℕ) (b : Bool) → ((leb first m && leb m last) || eqb m more) ≡ b → m < 2 ^ 32 → IfSome (cond b (Some (pos m)) None) (InRange (schema.EnumOr first last more))
+recognised_or first last more m true e lt = (is_among first last more m (one_true (leb first m && leb m last) (eqb m more) e), lt)
+recognised_or first last more m false e lt = tt
+
 scalar_range : (t : Scalar) (x : wire.WireValue) → NumbersFit x → IfSome (scalar_in t x) (InRange t)
 scalar_range schema.Bool (Varint n) h = bool_below (eqb n 0)
 scalar_range schema.U32 (Varint n) h = omega arith
@@ -72,6 +84,7 @@ scalar_range schema.I64 (Varint n) h = read_sfits w64 n
 scalar_range schema.Bits32 (Fixed32 n) h = h
 scalar_range schema.Bits64 (Fixed64 n) h = h
 scalar_range (schema.Enum first last) (Varint n) h = recognised first last (n % 2 ^ 32) (leb first (n % 2 ^ 32) && leb (n % 2 ^ 32) last) refl (omega arith)
+scalar_range (schema.EnumOr first last more) (Varint n) h = recognised_or first last more (n % 2 ^ 32) ((leb first (n % 2 ^ 32) && leb (n % 2 ^ 32) last) || eqb (n % 2 ^ 32) more) refl (omega arith)
 scalar_range _ _ h = tt
 
 -- ---- slots

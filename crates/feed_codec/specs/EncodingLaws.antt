@@ -9,7 +9,7 @@ use Rattle.feed_values.specs.Accepted.{IsMessage, missing, snapshot_limit}
 use Rattle.feed_values.specs.Snapshot.{snapshot_value}
 use Rattle.feed_values.specs.Views.{unknown_field, translation_value, translated_string_value, time_range_value, trip_descriptor_value}
 use Rattle.feed_values.specs.Views.{vehicle_descriptor_value, entity_selector_value, alert_value, position_value, vehicle_position_value}
-use Rattle.feed_values.specs.Views.{stop_time_event_value, stop_time_update_value, trip_update_value, entity_value, feed_header_value}
+use Rattle.feed_values.specs.Views.{stop_time_event_value, stop_time_properties_value, stop_time_update_value, trip_properties_value, trip_update_value, entity_value, feed_header_value}
 use Rattle.feed_values.specs.Views.{feed_message_value}
 use Rattle.feed_values.specs.Canonical.{canonical}
 use Rattle.feed_values.specs.WellFormed.{IsWellFormed, IsWellFormedFeed}
@@ -79,7 +79,9 @@ pub record ValuesAreFaithful : Type 0 where
   pub position : IsOneToOne position_value
   pub vehicle_position : IsOneToOne vehicle_position_value
   pub stop_time_event : IsOneToOne stop_time_event_value
+  pub stop_time_properties : IsOneToOne stop_time_properties_value
   pub stop_time_update : IsOneToOne stop_time_update_value
+  pub trip_properties : IsOneToOne trip_properties_value
   pub trip_update : IsOneToOne trip_update_value
   pub entity : IsOneToOne entity_value
   pub feed_header : IsOneToOne feed_header_value

@@ -8,7 +8,7 @@ use crate::checking::{Checked, check_text};
 use crate::message::Message;
 use crate::refusal::Refusal;
 use crate::stopped::Stopped;
-use crate::taking::{take_enum, take_text, take_u32};
+use crate::taking::{take_enum_or, take_text, take_u32};
 use feed_values::{Items, TripDescriptor, Unknown, VehicleDescriptor};
 use rt_wire::RawField;
 use std::alloc::{AllocError, Global};
@@ -46,7 +46,7 @@ impl Message for TripDescriptor {
             1 => take_text(alloc, &mut self.trip_id, &field.value),
             2 => take_text(alloc, &mut self.start_time, &field.value),
             3 => take_text(alloc, &mut self.start_date, &field.value),
-            4 => Ok(take_enum(&mut self.schedule_relationship, &field.value, 0, 3)),
+            4 => Ok(take_enum_or(&mut self.schedule_relationship, &field.value, 0, 3, 6)),
             5 => take_text(alloc, &mut self.route_id, &field.value),
             6 => Ok(take_u32(&mut self.direction_id, &field.value)),
             _ => Ok(false),

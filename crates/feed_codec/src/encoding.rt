@@ -17,12 +17,13 @@ ghost use Rattle.feed_values.specs.Canonical.{canonical, spelled_slot, where_hel
 mod alert;
 mod descriptors;
 mod feed;
+mod properties;
 mod translation;
 mod trip_update;
 mod vehicle_position;
 
 use crate::message::Message;
-use feed_values::{Blank, Boxed, Items, Text, Unknown, UnknownValue};
+use feed_values::{Apart, Blank, Boxed, Items, Text, Unknown, UnknownValue};
 use rt_wire::{RawValue, put_field};
 use std::alloc::{AllocError, Global};
 
@@ -181,6 +182,25 @@ pub fn put_optional<M: Encode>(
 {
     match held {
         Some(message) => put_message(alloc, out, number, message),
+        None => Ok(()),
+    }
+}
+
+/// The same of a message that stands apart.
+pub fn put_apart<M: Encode>(
+    alloc: Global,
+    out: &mut Vec<u8>,
+    number: u32,
+    held: &Option<Apart<M>>,
+) -> Result<(), AllocError>
+    requires some { 1 ≤ number }
+    requires small { number < 2 ^ 29 }
+    requires fits { IfSome (option_map M.value held.now) (IsWellFormed M.schema) }
+    ensures { OnOk result (out.new.items ≡ out.old.items
+        ++ where_held (λ w. spelled_slot number (Len (canonical M.schema w))) (option_map M.value held.now)) }
+{
+    match held {
+        Some(apart) => put_message::<M>(alloc, out, number, apart),
         None => Ok(()),
     }
 }

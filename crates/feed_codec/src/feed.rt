@@ -9,12 +9,12 @@ ghost use Rattle.feed_values.specs.Messages.{feed_message, feed_header, entity};
 ghost use Rattle.feed_values.specs.Views.{feed_message_value, feed_header_value, entity_value};
 
 use crate::checking::{Checked, check_message, check_text};
-use crate::message::{Message, merge_optional, merge_required, push_repeated};
+use crate::message::{Message, merge_apart, merge_required, push_repeated};
 use crate::missing::missing_in_entity;
 use crate::refusal::Refusal;
 use crate::room::room_for;
 use crate::stopped::Stopped;
-use crate::taking::{take_bool, take_enum, take_required_text, take_u64};
+use crate::taking::{take_bool, take_enum, take_required_text, take_text, take_u64};
 use feed_values::{
     Alert, Entity, FeedHeader, FeedMessage, Items, Text, TripUpdate, Unknown, VehiclePosition,
 };
@@ -81,7 +81,7 @@ impl Checked for FeedHeader {
 
     fn check_slot(number: u32, payload: &[u8]) -> Result<(), Refusal> {
         match number {
-            1 => check_text(payload),
+            1 | 4 => check_text(payload),
             _ => Ok(()),
         }
     }
@@ -97,6 +97,7 @@ impl Message for FeedHeader {
             gtfs_realtime_version: Text::new(alloc),
             incrementality: None,
             timestamp: None,
+            feed_version: None,
             unknown: Items::new(alloc),
         }
     }
@@ -106,6 +107,7 @@ impl Message for FeedHeader {
             1 => take_required_text(alloc, &mut self.gtfs_realtime_version, &field.value),
             2 => Ok(take_enum(&mut self.incrementality, &field.value, 0, 1)),
             3 => Ok(take_u64(&mut self.timestamp, &field.value)),
+            4 => take_text(alloc, &mut self.feed_version, &field.value),
             _ => Ok(false),
         }
     }
@@ -153,9 +155,9 @@ impl Message for Entity {
         match field.number {
             1 => take_required_text(alloc, &mut self.id, &field.value),
             2 => Ok(take_bool(&mut self.is_deleted, &field.value)),
-            3 => merge_optional(alloc, &mut self.trip_update, &field.value),
-            4 => merge_optional(alloc, &mut self.vehicle, &field.value),
-            5 => merge_optional(alloc, &mut self.alert, &field.value),
+            3 => merge_apart(alloc, &mut self.trip_update, &field.value),
+            4 => merge_apart(alloc, &mut self.vehicle, &field.value),
+            5 => merge_apart(alloc, &mut self.alert, &field.value),
             _ => Ok(false),
         }
     }

@@ -9,7 +9,8 @@
 //! - `check_snapshot` decides the same without memory. `check_entity`, `check_header_part` and `check_header` do so for
 //!   one entity, one payload of the header, and the header's payloads together.
 //! - `decode_entity` gives what the payload of one entity means, and counts a step. `decode_header` gives what the
-//!   payloads of the header mean together.
+//!   payloads of the header mean together. `decode_trip_properties` and `decode_stop_time_properties` do so for these messages
+//!   by themselves.
 //! - `encode` writes the canonical bytes of a well-formed message, which decode to that message again.
 //!
 //! Want of memory is the one failure beside a refusal. What a snapshot means, which are accepted, and the canonical bytes
@@ -30,14 +31,14 @@
 //! - `room`: lists with the room that they need
 //! - `message`: any message, field by field
 //! - `checking`: the first fault of any message, but for required slots
-//! - `descriptors`, `translation`, `alert`, `vehicle_position`, `trip_update`, `feed`: the kinds of message
+//! - `descriptors`, `properties`, `translation`, `alert`, `vehicle_position`, `trip_update`, `feed`: the kinds of message
 //! - `missing`: the required slots of an entity
 //! - `entity`: one entity, or one payload of the header, by itself
 //! - `header`: what is asked of the header at the snapshot's end
 //! - `snapshot`: a whole snapshot, checked and decoded
 //! - `laws`: that a refusal is the first fault, and that the parts of a snapshot decide as the whole
 //! - `encoding`: any message, written slot by slot
-//! - in `encoding`, `descriptors`, `translation`, `alert`, `vehicle_position`, `trip_update`, `feed`: the kinds of
+//! - in `encoding`, `descriptors`, `properties`, `translation`, `alert`, `vehicle_position`, `trip_update`, `feed`: the kinds of
 //!   message, written
 //! - `canonical`: a whole snapshot, written
 //! - `encoding_laws`: that encoding and decoding undo each other
@@ -59,6 +60,7 @@ mod missing;
 mod numbers;
 mod paths;
 mod payloads;
+mod properties;
 mod refusal;
 mod room;
 mod snapshot;
@@ -80,5 +82,6 @@ pub use entity::{check_entity, check_header_part, decode_entity, decode_header};
 pub use header::check_header;
 pub use laws::{missing_is_first, parts_decide, refusal_is_first};
 pub use payloads::{last_payload, payload_of};
+pub use properties::{decode_stop_time_properties, decode_trip_properties};
 pub use refusal::{Reason, Refusal, Required};
 pub use snapshot::{SNAPSHOT_LIMIT, check_snapshot, decode};

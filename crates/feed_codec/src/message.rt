@@ -12,7 +12,7 @@ ghost use Rattle.feed_codec.specs.Refusal.{first_in, in_payload};
 use crate::checking::Checked;
 use crate::stopped::Stopped;
 use crate::unknown::unknown_of;
-use feed_values::{Blank, Boxed, Items, Unknown};
+use feed_values::{Apart, Blank, Boxed, Items, Unknown};
 use rt_wire::{Fields, RawField, RawValue};
 use std::alloc::{AllocError, Global};
 
@@ -98,6 +98,40 @@ pub fn merge_optional<M: Message>(
         None => unreachable!(),
     }
     Ok(true)
+}
+
+/// The same where the message stands apart.
+pub fn merge_apart<M: Message>(
+    alloc: Global,
+    held: &mut Option<Apart<M>>,
+    value: &RawValue<'_>,
+) -> Result<bool, Stopped>
+    ensures value { TakenOr (merged_message Optional (with_fields M.schema) (blank M.schema) (value_of value.now) (option_map M.value held.old))
+        (option_map M.value held.old) (option_map M.value held.new) result }
+    ensures fine { IfOk result (λ _. NothingWrong (λ p. first_in (in_payload M.wrong) (placed_fields p)) (value_of value.now)) }
+{
+    let mut message = joined(held.take());
+    let taken = merge_optional(alloc, &mut message, value)?;
+    *held = apart(alloc, message)?;
+    Ok(taken)
+}
+
+fn joined<M: Message>(held: Option<Apart<M>>) -> Option<M>
+    ensures { result ≡ held }
+{
+    match held {
+        Some(apart) => Some(apart.into_inner()),
+        None => None,
+    }
+}
+
+fn apart<M: Message>(alloc: Global, message: Option<M>) -> Result<Option<Apart<M>>, AllocError>
+    ensures { IfOk result (λ held. held ≡ message) }
+{
+    match message {
+        Some(message) => Ok(Some(Apart::new(alloc, message)?)),
+        None => Ok(None),
+    }
 }
 
 /// The same where the message is held in a box.

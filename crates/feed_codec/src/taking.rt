@@ -75,6 +75,28 @@ pub fn take_enum(held: &mut Option<u32>, value: &RawValue<'_>, low: u32, high: u
     true
 }
 
+/// The same of an enum that recognises one number more.
+pub fn take_enum_or(
+    held: &mut Option<u32>,
+    value: &RawValue<'_>,
+    low: u32,
+    high: u32,
+    more: u32,
+) -> bool
+    ensures { Took (merged_scalar schema.Optional (schema.EnumOr low high more) (value_of value.now))
+        (natural held.old) (natural held.new) result }
+{
+    let RawValue::Varint(n) = *value else {
+        return false;
+    };
+    let n = low_32(n);
+    if (n < low || n > high) && n != more {
+        return false;
+    }
+    *held = Some(n);
+    true
+}
+
 pub fn take_text(
     alloc: Global,
     held: &mut Option<Text>,

@@ -5,13 +5,14 @@ ghost use Rattle.feed_values.specs.Messages.{trip_update, stop_time_update, stop
 ghost use Rattle.feed_values.specs.Views.{trip_update_value, stop_time_update_value, stop_time_event_value};
 
 use crate::checking::{Checked, check_message, check_text};
-use crate::message::{Message, merge_optional, merge_required, push_repeated};
+use crate::message::{Message, merge_apart, merge_optional, merge_required, push_repeated};
 use crate::refusal::Refusal;
 use crate::room::room_for;
 use crate::stopped::Stopped;
 use crate::taking::{take_enum, take_i32, take_i64, take_text, take_u32, take_u64};
 use feed_values::{
-    Items, StopTimeEvent, StopTimeUpdate, TripDescriptor, TripUpdate, Unknown, VehicleDescriptor,
+    Items, StopTimeEvent, StopTimeProperties, StopTimeUpdate, TripDescriptor, TripProperties,
+    TripUpdate, Unknown, VehicleDescriptor,
 };
 use rt_wire::RawField;
 use std::alloc::{AllocError, Global};
@@ -25,6 +26,7 @@ impl Checked for TripUpdate {
             1 => check_message::<TripDescriptor>(payload),
             2 => check_message::<StopTimeUpdate>(payload),
             3 => check_message::<VehicleDescriptor>(payload),
+            6 => check_message::<TripProperties>(payload),
             _ => Ok(()),
         }
     }
@@ -42,6 +44,7 @@ impl Message for TripUpdate {
             vehicle: None,
             timestamp: None,
             delay: None,
+            trip_properties: None,
             unknown: Items::new(alloc),
         }
     }
@@ -60,6 +63,7 @@ impl Message for TripUpdate {
             3 => merge_optional(alloc, &mut self.vehicle, &field.value),
             4 => Ok(take_u64(&mut self.timestamp, &field.value)),
             5 => Ok(take_i32(&mut self.delay, &field.value)),
+            6 => merge_apart(alloc, &mut self.trip_properties, &field.value),
             _ => Ok(false),
         }
     }
@@ -79,6 +83,7 @@ impl Checked for StopTimeUpdate {
         match number {
             2 | 3 => check_message::<StopTimeEvent>(payload),
             4 => check_text(payload),
+            6 => check_message::<StopTimeProperties>(payload),
             _ => Ok(()),
         }
     }
@@ -96,6 +101,7 @@ impl Message for StopTimeUpdate {
             departure: None,
             stop_id: None,
             schedule_relationship: None,
+            stop_time_properties: None,
             unknown: Items::new(alloc),
         }
     }
@@ -108,6 +114,7 @@ impl Message for StopTimeUpdate {
             3 => merge_optional(alloc, &mut self.departure, &field.value),
             4 => take_text(alloc, &mut self.stop_id, &field.value),
             5 => Ok(take_enum(&mut self.schedule_relationship, &field.value, 0, 2)),
+            6 => merge_apart(alloc, &mut self.stop_time_properties, &field.value),
             _ => Ok(false),
         }
     }

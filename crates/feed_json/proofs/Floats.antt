@@ -69,6 +69,8 @@ scalar_float schema.Bits64 (pos n) = refl
 scalar_float schema.Bits64 (negsuc n) = refl
 scalar_float (schema.Enum first last) (pos n) = refl
 scalar_float (schema.Enum first last) (negsuc n) = refl
+scalar_float (schema.EnumOr first last more) (pos n) = refl
+scalar_float (schema.EnumOr first last more) (negsuc n) = refl
 
 by_value : (number : ℕ) (x : WireValue) → NoFloat (unknown_form (record { number = number; value = x }))
 by_value number (Varint n) = refl

@@ -32,6 +32,7 @@ free_number key schema.I64 z free h = h
 free_number key schema.Bits32 z free h = h
 free_number key schema.Bits64 z free h = h
 free_number key (schema.Enum first last) z free h = rw free h
+free_number key (schema.EnumOr first last more) z free h = h
 
 slots_hold : (k s : Schema) (v : Value s) → IsFree s → SlotsFit k s v → Holds k s v
 slots_hold k schema.end v free h = h
@@ -85,6 +86,7 @@ json_number key schema.I64 z h = h
 json_number key schema.Bits32 z h = h
 json_number key schema.Bits64 z h = h
 json_number key (schema.Enum first last) z h = wider first last (bytes_eq key (codes "incrementality")) z h
+json_number key (schema.EnumOr first last more) z h = h
 
 held_fit : (k s : Schema) (v : Value s) → Holds k s v → SlotsFit k s v
 held_fit k schema.end v h = h

@@ -11,6 +11,7 @@ use Rattle.feed_json.specs.Unform.{last_number}
 -- a number that JSON may hold at a key
 abbrev pub InJson : List ℕ → Scalar → ℤ → Type 0
 InJson key (schema.Enum first last) z = IsRecognised first (last_number key last) z
+InJson key (schema.EnumOr first last more) z = InRange (schema.EnumOr first last more) z
 InJson key schema.Bool z = InRange schema.Bool z
 InJson key schema.U32 z = InRange schema.U32 z
 InJson key schema.I32 z = InRange schema.I32 z

@@ -43,6 +43,14 @@ integer_of d = option_and_then as_integer (as_number d)
 abbrev pub natural_of : ℕ → ℕ → Data → Result ℕ JsonFault
 natural_of low high d = of_kind (integer_of d) >>= λ z. in_range (natural_in low high z)
 
+-- one in a range, or one number more
+abbrev pub natural_or_in : ℕ → ℕ → ℕ → ℤ → Option ℕ
+natural_or_in low high more (pos n) = if (nat_le low n && nat_le n high) || n == more then Some n else None
+natural_or_in low high more (negsuc n) = None
+
+abbrev pub natural_or_of : ℕ → ℕ → ℕ → Data → Result ℕ JsonFault
+natural_or_of low high more d = of_kind (integer_of d) >>= λ z. in_range (natural_or_in low high more z)
+
 abbrev pub signed_of : ℤ → ℤ → Data → Result ℤ JsonFault
 signed_of low high d = of_kind (integer_of d) >>= λ z. in_range (signed_in low high z)
 
@@ -60,6 +68,7 @@ scalar_of key schema.I64 d = signed_of (negsuc 9223372036854775807) (pos 9223372
 scalar_of key schema.Bits32 d = natural_of 0 4294967295 d >>= λ n. Ok (pos n)
 scalar_of key schema.Bits64 d = natural_of 0 18446744073709551615 d >>= λ n. Ok (pos n)
 scalar_of key (schema.Enum first last) d = natural_of first (last_number key last) d >>= λ n. Ok (pos n)
+scalar_of key (schema.EnumOr first last more) d = natural_or_of first last more d >>= λ n. Ok (pos n)
 
 abbrev pub text_of : Data → Result (List ℕ) JsonFault
 text_of d = of_kind (as_str d)

@@ -2,7 +2,7 @@
 
 use crate::json_fault::JsonFault;
 use crate::message::Form;
-use crate::reading::{optional_enum, optional_text, optional_u32};
+use crate::reading::{optional_enum_or, optional_text, optional_u32};
 use crate::unknown::{put_unknown, unknown_fields};
 use crate::writing::{put_optional_text, put_u32};
 use feed_values::{TripDescriptor, VehicleDescriptor};
@@ -27,7 +27,14 @@ impl Form for TripDescriptor {
             trip_id: optional_text(alloc, value, "trip_id")?,
             start_time: optional_text(alloc, value, "start_time")?,
             start_date: optional_text(alloc, value, "start_date")?,
-            schedule_relationship: optional_enum(alloc, value, "schedule_relationship", 0, 3)?,
+            schedule_relationship: optional_enum_or(
+                alloc,
+                value,
+                "schedule_relationship",
+                0,
+                3,
+                6,
+            )?,
             route_id: optional_text(alloc, value, "route_id")?,
             direction_id: optional_u32(alloc, value, "direction_id")?,
             unknown: unknown_fields::<TripDescriptor>(alloc, value)?,

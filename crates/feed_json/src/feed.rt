@@ -2,13 +2,14 @@
 
 use crate::json_fault::JsonFault;
 use crate::message::{Form, needed_message, repeated};
-use crate::reading::{needed_text, optional_bool, optional_enum, optional_u64};
+use crate::reading::{needed_text, optional_bool, optional_enum, optional_text, optional_u64};
 use crate::three::three_from;
 use crate::unknown::{put_unknown, unknown_fields};
 use crate::writing::{
-    put_bool, put_message, put_optional, put_repeated, put_text, put_u32, put_u64,
+    put_bool, put_message, put_optional, put_optional_text, put_repeated, put_text, put_u32,
+    put_u64,
 };
-use feed_values::{Alert, Entity, FeedHeader, FeedMessage, TripUpdate, VehiclePosition};
+use feed_values::{Alert, Apart, Entity, FeedHeader, FeedMessage, TripUpdate, VehiclePosition};
 use serde_json::{Map, Value};
 use std::alloc::{AllocError, Global};
 
@@ -38,6 +39,7 @@ impl Form for FeedHeader {
             "gtfs_realtime_version",
             "incrementality",
             "timestamp",
+            "feed_version",
             "unknown",
         ]
     }
@@ -47,6 +49,7 @@ impl Form for FeedHeader {
             gtfs_realtime_version: needed_text(alloc, value, "gtfs_realtime_version")?,
             incrementality: optional_enum(alloc, value, "incrementality", 0, 1)?,
             timestamp: optional_u64(alloc, value, "timestamp")?,
+            feed_version: optional_text(alloc, value, "feed_version")?,
             unknown: unknown_fields::<FeedHeader>(alloc, value)?,
         })
     }
@@ -60,6 +63,7 @@ impl Form for FeedHeader {
         )?;
         put_u32(alloc, members, "incrementality", self.incrementality)?;
         put_u64(alloc, members, "timestamp", self.timestamp)?;
+        put_optional_text(alloc, members, "feed_version", &self.feed_version)?;
         put_unknown(alloc, members, &self.unknown)
     }
 }
@@ -79,7 +83,7 @@ impl Form for Entity {
     fn read(alloc: Global, value: &Value) -> Result<Entity, JsonFault> {
         let id = needed_text(alloc, value, "id")?;
         let is_deleted = optional_bool(alloc, value, "is_deleted")?;
-        let parts = three_from::<TripUpdate, VehiclePosition, Alert, Entity>(
+        let parts = three_from::<Apart<TripUpdate>, Apart<VehiclePosition>, Apart<Alert>, Entity>(
             alloc,
             value,
             "trip_update",

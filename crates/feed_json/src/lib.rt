@@ -38,6 +38,7 @@ mod json_fault;
 mod laws;
 mod message;
 mod paths;
+mod properties;
 mod reading;
 mod snapshot;
 mod text;

@@ -13,7 +13,7 @@ ghost use Rattle.feed_json.specs.Unform.{unform, slots_of, is_key, names_of, fir
 
 use crate::json_fault::JsonFault;
 use crate::paths::{text_of, under, wrong_kind};
-use feed_values::{Blank, Boxed, Items, Slots};
+use feed_values::{Apart, Blank, Boxed, Items, Slots};
 use serde_json::{Map, Value};
 use std::alloc::{AllocError, Global};
 
@@ -50,6 +50,21 @@ impl<M: Form + Blank> Form for Boxed<M> {
             Some(message) => message.put(alloc, members),
             None => M::blank(alloc).put(alloc, members),
         }
+    }
+}
+
+/// A message that stands apart too.
+impl<M: Form> Form for Apart<M> {
+    fn names() -> &'static [&'static str] {
+        M::names()
+    }
+
+    fn read(alloc: Global, value: &Value) -> Result<Apart<M>, JsonFault> {
+        Ok(Apart::new(alloc, M::read(alloc, value)?)?)
+    }
+
+    fn put(&self, alloc: Global, members: &mut Map<String, Value>) -> Result<(), AllocError> {
+        (**self).put(alloc, members)
     }
 }
 

@@ -9,7 +9,8 @@ ghost use Rattle.feed_values.specs.Schema as schema;
 ghost use Rattle.feed_values.specs.Views.{natural, truth};
 ghost use Rattle.feed_json.specs.Holds.{InJson};
 ghost use Rattle.feed_json.specs.Reads.{Reads};
-ghost use Rattle.feed_json.specs.Unform.{natural_of, signed_of, scalar_of, text_of, of_kind, needed_at, optional_at};
+ghost use Rattle.feed_values.specs.WellFormed.{InRange};
+ghost use Rattle.feed_json.specs.Unform.{natural_of, natural_or_of, signed_of, scalar_of, text_of, of_kind, needed_at, optional_at};
 
 use crate::json_fault::JsonFault;
 use crate::paths::{out_of_range, text_of, under, wrong_kind};
@@ -164,6 +165,55 @@ pub fn optional_enum(
     let last = if key == "incrementality" { 0 } else { last };
     match value.get(key) {
         Some(held) => Ok(Some(under(alloc, key, u32_from(alloc, held, first, last))?)),
+        None => Ok(None),
+    }
+}
+
+/// A number from `first` to `last`, or `more`.
+fn number_or_from(
+    alloc: Global,
+    value: &Value,
+    first: u32,
+    last: u32,
+    more: u32,
+) -> Result<u32, JsonFault>
+    ensures read { result ≡ natural_or_of first last more (view value.now) }
+    ensures fits { IfOk result (λ n. InRange (schema.EnumOr first last more) (pos n)) }
+{
+    match value.as_u64() {
+        Some(number) => {
+            if u64::from(first) <= number && number <= u64::from(last)
+                || number == u64::from(more)
+            {
+                Ok(number as u32)
+            } else {
+                Err(out_of_range(alloc))
+            }
+        }
+        None => {
+            if value.as_i64().is_some() {
+                Err(out_of_range(alloc))
+            } else {
+                Err(wrong_kind(alloc))
+            }
+        }
+    }
+}
+
+/// The number of an enum that goes from `first` to `last`, and has one number more.
+pub fn optional_enum_or(
+    alloc: Global,
+    value: &Value,
+    key: &str,
+    first: u32,
+    last: u32,
+    more: u32,
+) -> Result<Option<u32>, JsonFault>
+    ensures read { Reads natural (optional_at key.now (scalar_of key.now (schema.EnumOr first last more)) (get key.now (view value.now))) result }
+    ensures fits { IfOk result (λ o. IfSome (natural o) (InJson key.now (schema.EnumOr first last more))) }
+{
+    match value.get(key) {
+        Some(held) => Ok(Some(under(alloc, key, number_or_from(alloc, held, first, last, more))?)),
         None => Ok(None),
     }
 }

@@ -21,6 +21,7 @@ impl Form for TripUpdate {
             "vehicle",
             "timestamp",
             "delay",
+            "trip_properties",
             "unknown",
         ]
     }
@@ -32,6 +33,7 @@ impl Form for TripUpdate {
             vehicle: optional_message(alloc, value, "vehicle")?,
             timestamp: optional_u64(alloc, value, "timestamp")?,
             delay: optional_i32(alloc, value, "delay")?,
+            trip_properties: optional_message(alloc, value, "trip_properties")?,
             unknown: unknown_fields::<TripUpdate>(alloc, value)?,
         })
     }
@@ -42,6 +44,7 @@ impl Form for TripUpdate {
         put_optional(alloc, members, "vehicle", &self.vehicle)?;
         put_u64(alloc, members, "timestamp", self.timestamp)?;
         put_i32(alloc, members, "delay", self.delay)?;
+        put_optional(alloc, members, "trip_properties", &self.trip_properties)?;
         put_unknown(alloc, members, &self.unknown)
     }
 }
@@ -54,6 +57,7 @@ impl Form for StopTimeUpdate {
             "departure",
             "stop_id",
             "schedule_relationship",
+            "stop_time_properties",
             "unknown",
         ]
     }
@@ -65,6 +69,7 @@ impl Form for StopTimeUpdate {
             departure: optional_message(alloc, value, "departure")?,
             stop_id: optional_text(alloc, value, "stop_id")?,
             schedule_relationship: optional_enum(alloc, value, "schedule_relationship", 0, 2)?,
+            stop_time_properties: optional_message(alloc, value, "stop_time_properties")?,
             unknown: unknown_fields::<StopTimeUpdate>(alloc, value)?,
         })
     }
@@ -79,6 +84,12 @@ impl Form for StopTimeUpdate {
             members,
             "schedule_relationship",
             self.schedule_relationship,
+        )?;
+        put_optional(
+            alloc,
+            members,
+            "stop_time_properties",
+            &self.stop_time_properties,
         )?;
         put_unknown(alloc, members, &self.unknown)
     }

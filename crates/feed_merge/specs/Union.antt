@@ -50,7 +50,7 @@ greatest_stamp vs = greatest (stamps_in vs)
 
 -- version 2.0, FULL_DATASET and a timestamp
 abbrev pub union_header : Option ℤ → Value feed_header
-union_header stamp = (codes "2.0", (Some (pos 0), (stamp, [])))
+union_header stamp = (codes "2.0", (Some (pos 0), (stamp, (None, []))))
 
 -- ---- the union
 abbrev pub headed : Option ℤ → List (Value entity) → Value feed_message

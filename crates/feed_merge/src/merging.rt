@@ -25,6 +25,7 @@ fn header_of(alloc: Global, stamp: Option<u64>) -> Result<FeedHeader, AllocError
         gtfs_realtime_version: Text::of(alloc, VERSION)?,
         incrementality: Some(FULL_DATASET),
         timestamp: stamp,
+        feed_version: None,
         unknown: Items::new(alloc),
     })
 }

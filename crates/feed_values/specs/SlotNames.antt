@@ -1,7 +1,12 @@
 -- The slots by name, as `Slot` has them: the message that a field is in, and the field. A field of an item is named without
 -- its list.
+use Rattle.std.specs.Prelude.{List, [], ◌∷◌}
 use Rattle.feed_values.specs.declared.slot.Slot.{Slot}
-use Rattle.feed_values.specs.declared.slot.Slot.TheVariants.{S1, S2, S3, S10, S11, S20, S21, S22, S23, S24, S25, S26, S27, S28, S29, S30, S31, S32, S33, S34, S35, S36, S37, S38, S39, S40, S50, S51, S52, S53, S54, S55, S56, S57, S58, S59, S60, S70, S71, S72, S73, S74, S75, S76, S77, S78, S79, S80, S81, S82, S83, S84, S85}
+use Rattle.feed_values.specs.declared.slot.Slot.TheVariants.{S1, S2, S3, S4, S10, S11, S20, S21, S22, S23, S24, S25, S26, S27, S28, S29, S30, S31, S32, S33, S34, S35, S36, S37, S38, S39, S40, S41, S42, S43, S44, S50, S51, S52, S53, S54, S55, S56, S57, S58, S59, S60, S70, S71, S72, S73, S74, S75, S76, S77, S78, S79, S80, S81, S82, S83, S84, S85}
+
+-- all slots, by rising number
+abbrev pub all_slots : List Slot
+all_slots = S1 ∷ S2 ∷ S3 ∷ S4 ∷ S10 ∷ S11 ∷ S20 ∷ S21 ∷ S22 ∷ S23 ∷ S24 ∷ S25 ∷ S26 ∷ S27 ∷ S28 ∷ S29 ∷ S30 ∷ S31 ∷ S32 ∷ S33 ∷ S34 ∷ S35 ∷ S36 ∷ S37 ∷ S38 ∷ S39 ∷ S40 ∷ S41 ∷ S42 ∷ S43 ∷ S44 ∷ S50 ∷ S51 ∷ S52 ∷ S53 ∷ S54 ∷ S55 ∷ S56 ∷ S57 ∷ S58 ∷ S59 ∷ S60 ∷ S70 ∷ S71 ∷ S72 ∷ S73 ∷ S74 ∷ S75 ∷ S76 ∷ S77 ∷ S78 ∷ S79 ∷ S80 ∷ S81 ∷ S82 ∷ S83 ∷ S84 ∷ S85 ∷ []
 
 -- ---- a header
 -- header.gtfs_realtime_version
@@ -15,6 +20,10 @@ header_incrementality = S2
 -- header.timestamp
 abbrev pub header_timestamp : Slot
 header_timestamp = S3
+
+-- header.feed_version
+abbrev pub header_feed_version : Slot
+header_feed_version = S4
 
 -- ---- each entity
 -- id
@@ -110,6 +119,23 @@ update_departure_delay = S39
 -- trip_update.stop_time_update[i].departure.time
 abbrev pub update_departure_time : Slot
 update_departure_time = S40
+
+-- trip_update.stop_time_update[i].stop_time_properties.assigned_stop_id
+abbrev pub update_assigned_stop_id : Slot
+update_assigned_stop_id = S41
+
+-- ---- what it says of its trip anew
+-- trip_update.trip_properties.trip_id
+abbrev pub update_properties_trip_id : Slot
+update_properties_trip_id = S42
+
+-- trip_update.trip_properties.start_date
+abbrev pub update_properties_start_date : Slot
+update_properties_start_date = S43
+
+-- trip_update.trip_properties.start_time
+abbrev pub update_properties_start_time : Slot
+update_properties_start_time = S44
 
 -- ---- a vehicle position
 -- vehicle

@@ -1,15 +1,12 @@
 -- Paths by their printed texts: what stands before an index in brackets, the index, and what stands behind it. (This profile.)
-use Rattle.std.specs.Prelude.{ℕ, ◌==◌, ◌&&◌, not, List, [], ◌∷◌, bytes_eq, Option, Some, None, find, option_map, option_and_then}
+use Rattle.std.specs.Prelude.{ℕ, ◌==◌, ◌&&◌, not, List, bytes_eq, Option, Some, None, find, option_map, option_and_then}
 use Rattle.std.specs.List.{before_first, after_first}
 use Rattle.feed_values.specs.declared.slot.Slot.{Slot}
-use Rattle.feed_values.specs.declared.slot.Slot.TheVariants.{S1, S2, S3, S10, S11, S20, S21, S22, S23, S24, S25, S26, S27, S28, S29, S30, S31, S32, S33, S34, S35, S36, S37, S38, S39, S40, S50, S51, S52, S53, S54, S55, S56, S57, S58, S59, S60, S70, S71, S72, S73, S74, S75, S76, S77, S78, S79, S80, S81, S82, S83, S84, S85}
+use Rattle.feed_values.specs.SlotNames.{all_slots}
 use Rattle.feed_values.specs.declared.path.Path.{Path}
 use Rattle.feed_values.specs.Cells.{has_item, way, path_text}
 use Rattle.feed_values.specs.PathTexts.{text_before_index, text_after_index}
 use Rattle.finding_names.specs.Numbers.{u32_named}
-
-abbrev pub all_slots : List Slot
-all_slots = S1 ∷ S2 ∷ S3 ∷ S10 ∷ S11 ∷ S20 ∷ S21 ∷ S22 ∷ S23 ∷ S24 ∷ S25 ∷ S26 ∷ S27 ∷ S28 ∷ S29 ∷ S30 ∷ S31 ∷ S32 ∷ S33 ∷ S34 ∷ S35 ∷ S36 ∷ S37 ∷ S38 ∷ S39 ∷ S40 ∷ S50 ∷ S51 ∷ S52 ∷ S53 ∷ S54 ∷ S55 ∷ S56 ∷ S57 ∷ S58 ∷ S59 ∷ S60 ∷ S70 ∷ S71 ∷ S72 ∷ S73 ∷ S74 ∷ S75 ∷ S76 ∷ S77 ∷ S78 ∷ S79 ∷ S80 ∷ S81 ∷ S82 ∷ S83 ∷ S84 ∷ S85 ∷ []
 
 -- the slot of a text without an index
 abbrev pub plain_slot : List ℕ → Option Slot

@@ -11,7 +11,7 @@ ghost use Rattle.judging.specs.Seats.{Rising, seat_values};
 ghost use Rattle.pairing_rules.specs.ByKind.{AreAlike};
 ghost use Rattle.judging.specs.Judged.{found_at_seats, put_rows, seat_rows, update_rows_of, vehicle_rows_of};
 
-use feed_values::{Entity, Text, TripUpdate, VehiclePosition};
+use feed_values::{Apart, Entity, Text, TripUpdate, VehiclePosition};
 use pairing_rules::{PairIndex, PairRow};
 use rule_table::{EntityKey, Ids, Kind, ids_of_update, ids_of_vehicle};
 use std::alloc::{AllocError, Global};
@@ -48,7 +48,7 @@ fn add_update(
     alloc: Global,
     index: PairIndex,
     key: &EntityKey,
-    update: &Option<TripUpdate>,
+    update: &Option<Apart<TripUpdate>>,
 ) -> Result<PairIndex, AllocError>
     ensures { IfOk result (λ next. next ≡ put_rows index (update_rows key.now (option_map trip_update_value update.now))) }
 {
@@ -67,7 +67,7 @@ fn add_vehicle(
     alloc: Global,
     index: PairIndex,
     key: &EntityKey,
-    position: &Option<VehiclePosition>,
+    position: &Option<Apart<VehiclePosition>>,
 ) -> Result<PairIndex, AllocError>
     ensures { IfOk result (λ next. next ≡ put_rows index (vehicle_rows key.now (option_map vehicle_position_value position.now))) }
 {

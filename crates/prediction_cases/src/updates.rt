@@ -51,6 +51,7 @@ fn stop_update(alloc: Global, words: &[String]) -> Result<StopTimeUpdate, AllocE
         departure: event(alloc, departure_delay, number_at(words, "departure-time")),
         stop_id: text_of(alloc, words, "stop")?,
         schedule_relationship: number_at(words, "relationship"),
+        stop_time_properties: None,
         unknown: Items::new(alloc),
     })
 }
@@ -77,6 +78,7 @@ pub fn trip_update(
         vehicle: None,
         timestamp: None,
         delay: number_at(words, "delay"),
+        trip_properties: None,
         unknown: Items::new(alloc),
     };
     Ok(Box::new(alloc, update)?)

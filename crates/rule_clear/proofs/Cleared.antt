@@ -2,6 +2,7 @@
 use Rattle.std.proofs.Common.{inl, inr, sym, ◌∙◌, subst}
 use Rattle.std.specs.Prelude.{◌≡◌, Bool, true, false, List, [], ◌∷◌, ◌++◌, length, Option, Some, None, option_map, is_some, not, refl}
 use Rattle.std.specs.List.{list_all}
+use Rattle.std.specs.Option.{is_none}
 use Rattle.std.proofs.lemmas.Bool.{and_parts}
 use Rattle.feed_values.specs.Schema.{Value}
 use Rattle.feed_values.specs.Messages.{entity}
@@ -17,7 +18,7 @@ use Rattle.rule_clear.specs.declared.clear.Clear.{Clear}
 use Rattle.rule_table.specs.declared.key.EntityKey.{EntityKey}
 use Rattle.rule_table.specs.declared.rule.RuleId.{RuleId}
 use Rattle.rule_history.specs.Answered.{local_answer, tables_of}
-use Rattle.rule_clear.specs.Clear.{AreClear, cleared, when, where_sound, where_related, where_kept, where_sequenced, without_update, without_vehicle}
+use Rattle.rule_clear.specs.Clear.{AreClear, cleared, when, where_sound, where_related, where_kept, where_sequenced, where_unassigned, without_update, without_vehicle}
 use Rattle.rule_table.specs.ClearSlots.{IsClear, HasCells, IsAmong}
 use Rattle.rule_table.specs.Groups.{Each}
 use Rattle.rule_table.specs.GroupLaws.{each_append}
@@ -27,7 +28,7 @@ use Rattle.rule_table.specs.Pairs.{vehicle_of}
 use Rattle.rule_table.specs.Same.{SameFrom, below_same}
 use Rattle.rule_clear.specs.Sound.{AreUpdates, SoundBelow}
 use Rattle.rule_table.specs.Sources.{comes_from, is_local}
-use Rattle.rule_clear.proofs.NoneWhereGiven.{related_clear, sequenced_clear}
+use Rattle.rule_clear.proofs.NoneWhereGiven.{related_clear, sequenced_clear, unassigned_clear}
 use Rattle.rule_clear.proofs.NoneWhereKept as kept
 use Rattle.rule_clear.proofs.NoneWhereSound as sound
 use Rattle.rule_clear.proofs.NoneWithout.{each_when, messages_clear}
@@ -55,7 +56,7 @@ among_last x (y ∷ l) m h = inr (among_last x l m h)
 module _ (c : Clear) (p : RuleId × Slot) where
   past_updates : IsAmong p (when c.without_update without_update ++ when c.without_vehicle without_vehicle) → IsAmong p (cleared c)
   past_updates h =
-      among_last p (when c.sound where_sound) _ (among_last p (when c.related where_related) _ (among_last p (when c.kept where_kept) _ (among_last p (when c.sequenced where_sequenced) _ h)))
+      among_last p (when c.sound where_sound) _ (among_last p (when c.related where_related) _ (among_last p (when c.kept where_kept) _ (among_last p (when c.sequenced where_sequenced) _ (among_last p (when c.unassigned where_unassigned) _ h))))
 
   pub update_among : c.without_update ≡ true → IsAmong p without_update → IsAmong p (cleared c)
   update_among is h = past_updates (among_first p (when c.without_update without_update) _ (subst (λ b. IsAmong p (when b without_update)) (sym is) h))
@@ -91,9 +92,9 @@ module _ (table : Timetable) (key : EntityKey) (e : Value entity) (answer : Ask 
 
     pub seen_clear : (c : Clear) → (c.sound ≡ true → SoundBelow e (length stops)) → (c.related ≡ true → list_all (λ stop. is_some stop.schedule_relationship) stops ≡ true)
         → (c.kept ≡ true → is_present table ≡ true) → (c.kept ≡ true → KeepBelow (tables_in table) e (length stops))
-        → (c.sequenced ≡ true → list_all (λ stop. is_some stop.stop_sequence) stops ≡ true)
+        → (c.sequenced ≡ true → list_all (λ stop. is_some stop.stop_sequence) stops ≡ true) → (c.unassigned ≡ true → list_all (λ stop. is_none stop.stop_time_properties) stops ≡ true)
         → (c.without_update ≡ true → update_of e ≡ None) → (c.without_vehicle ≡ true → vehicle_of e ≡ None) → AreClear answer key e c
-    seen_clear c s r p h q u v =
+    seen_clear c s r p h q a u v =
         each_append Here (when c.sound where_sound) _
         (each_when Here c.sound where_sound (λ is. turned where_sound refl (sound.all_clear (tables_of table) key e (subst (SoundBelow e) (sym (update_places e stops k)) (s is)))))
         (each_append Here (when c.related where_related) _
@@ -102,4 +103,6 @@ module _ (table : Timetable) (key : EntityKey) (e : Value entity) (answer : Ask 
         (each_when Here c.kept where_kept (λ is. turned where_kept refl (kept_here (p is) (h is))))
         (each_append Here (when c.sequenced where_sequenced) _
         (each_when Here c.sequenced where_sequenced (λ is. turned where_sequenced refl (sequenced_clear (tables_of table) key e stops k (q is))))
-        (messages_clear answer key e cells c.without_update c.without_vehicle u v))))
+        (each_append Here (when c.unassigned where_unassigned) _
+        (each_when Here c.unassigned where_unassigned (λ is. turned where_unassigned refl (unassigned_clear (tables_of table) key e stops k (a is))))
+        (messages_clear answer key e cells c.without_update c.without_vehicle u v)))))

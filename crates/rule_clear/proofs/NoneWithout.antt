@@ -7,7 +7,7 @@ use Rattle.feed_values.specs.Messages.{entity}
 use Rattle.feed_values.specs.Cells.{entity_cell}
 use Rattle.feed_values.specs.declared.path.Path.{Path}
 use Rattle.feed_values.specs.declared.slot.Slot.{Slot}
-use Rattle.feed_values.specs.declared.slot.Slot.TheVariants.{S20, S21, S22, S23, S24, S25, S26, S27, S28, S29, S50, S51, S52, S53, S54, S55, S56, S57, S58, S59, S60}
+use Rattle.feed_values.specs.declared.slot.Slot.TheVariants.{S20, S21, S22, S23, S24, S25, S26, S27, S28, S29, S43, S44, S50, S51, S52, S53, S54, S55, S56, S57, S58, S59, S60}
 use Rattle.feed_values.specs.declared.cell_value.CellValue.{CellValue}
 use Rattle.feed_values.specs.declared.cell_value.CellValue.TheVariants.{Missing}
 use Rattle.rule_table.specs.declared.ask.Ask.{Ask}
@@ -59,70 +59,7 @@ module _ (answer : Ask → Option CellValue) (key : EntityKey) (e : Value entity
       at_one rule s n (none_found answer rule key s 0 (subst (λ l. broken_from answer at (test_of rule) [] l ≡ false) (sym row) unbroken))
 
   pub update_clear : update_of e ≡ None → Each Here without_update
-  update_clear h = (
-    lacks E001 S29 refl refl (rw h refl),
-    (
-      lacks E003 S21 refl refl (rw h refl),
-      (
-        lacks E004 S25 refl refl (rw h refl),
-        (
-          lacks E006 S21 refl refl (rw h refl),
-          (
-            lacks E012 S29 refl refl (rw h refl),
-            (
-              lacks E013 S24 refl refl (rw h refl),
-              (
-                lacks E016 S21 refl refl (rw h refl),
-                (
-                  lacks E019 S22 refl refl (rw h refl),
-                  (
-                    lacks E020 S22 refl refl (rw h refl),
-                    (
-                      lacks E021 S23 refl refl (rw h refl),
-                      (
-                        lacks E023 S22 refl refl (rw h refl),
-                        (
-                          lacks E024 S26 refl refl (rw h refl),
-                          (
-                            lacks E035 S25 refl refl (rw h refl),
-                            (
-                              lacks E041 S27 refl refl (rw h refl),
-                              (
-                                lacks E047 S28 refl refl (rw h refl),
-                                (
-                                  lacks E050 S29 refl refl (rw h refl),
-                                  (
-                                    lacks_first W001 S29 cite.Holder _ S20 refl refl refl refl (rw h refl),
-                                    (
-                                      lacks_first W002 S28 cite.Holder _ S20 refl refl refl refl (rw h refl),
-                                      (
-                                        lacks W003 S21 refl refl (rw h refl),
-                                        (
-                                          lacks W003 S28 refl refl (rw h refl),
-                                          (
-                                            lacks_first W005 S28 (cite.Cell S21) _ S21 refl refl refl refl (rw h refl),
-                                            (lacks_first W006 S21 (cite.Cell S20) _ S20 refl refl refl refl (rw h refl), (lacks_first W009 S24 cite.Holder _ S20 refl refl refl refl (rw h refl), tt)),
-                                          ),
-                                        ),
-                                      ),
-                                    ),
-                                  ),
-                                ),
-                              ),
-                            ),
-                          ),
-                        ),
-                      ),
-                    ),
-                  ),
-                ),
-              ),
-            ),
-          ),
-        ),
-      ),
-    ),
-  )
+  update_clear h = (lacks E001 S29 refl refl (rw h refl), (lacks E003 S21 refl refl (rw h refl), (lacks E004 S25 refl refl (rw h refl), (lacks E006 S21 refl refl (rw h refl), (lacks E012 S29 refl refl (rw h refl), (lacks E013 S24 refl refl (rw h refl), (lacks E016 S21 refl refl (rw h refl), (lacks E019 S22 refl refl (rw h refl), (lacks E020 S22 refl refl (rw h refl), (lacks E020 S44 refl refl (rw h refl), (lacks E021 S23 refl refl (rw h refl), (lacks E021 S43 refl refl (rw h refl), (lacks E023 S22 refl refl (rw h refl), (lacks E024 S26 refl refl (rw h refl), (lacks E035 S25 refl refl (rw h refl), (lacks E041 S27 refl refl (rw h refl), (lacks E047 S28 refl refl (rw h refl), (lacks E050 S29 refl refl (rw h refl), (lacks_first W001 S29 cite.Holder _ S20 refl refl refl refl (rw h refl), (lacks_first W002 S28 cite.Holder _ S20 refl refl refl refl (rw h refl), (lacks W003 S21 refl refl (rw h refl), (lacks W003 S28 refl refl (rw h refl), (lacks_first W005 S28 (cite.Cell S21) _ S21 refl refl refl refl (rw h refl), (lacks_first W006 S21 (cite.Cell S20) _ S20 refl refl refl refl (rw h refl), (lacks_first W009 S24 cite.Holder _ S20 refl refl refl refl (rw h refl), tt)))))))))))))))))))))))))
 
   pub vehicle_clear : vehicle_of e ≡ None → Each Here without_vehicle
   vehicle_clear h = (

@@ -7,15 +7,17 @@ use Rattle.feed_values.specs.Schema.{Value}
 use Rattle.feed_values.specs.Messages.{entity, stop_time_update, stop_time_event}
 use Rattle.feed_values.specs.Meaning.{option_case}
 use Rattle.feed_values.specs.Cells.{cell_in, entity_cell, has_item_of, number_cell, text_cell, way}
-use Rattle.feed_values.specs.Views.{natural, entity_value, stop_time_event_value, stop_time_update_value, trip_update_value}
+use Rattle.feed_values.specs.Views.{natural, entity_value, stop_time_event_value, stop_time_properties_value, stop_time_update_value, trip_update_value}
 use Rattle.feed_values.specs.declared.cell_value.CellValue.{CellValue}
 use Rattle.feed_values.specs.declared.cell_value.CellValue.TheVariants.{Missing, Number}
 use Rattle.feed_values.specs.declared.slot.Slot.{Slot}
 use Rattle.feed_values.specs.declared.entity.Entity.{Entity}
 use Rattle.feed_values.specs.declared.trip_update.TripUpdate.{TripUpdate}
 use Rattle.feed_values.specs.declared.stop_time_event.StopTimeEvent.{StopTimeEvent}
-use Rattle.feed_values.specs.declared.slot.Slot.TheVariants.{S31, S32, S33, S34, S35, S36, S37, S38, S39, S40}
+use Rattle.feed_values.specs.declared.slot.Slot.TheVariants.{S31, S32, S33, S34, S35, S36, S37, S38, S39, S40, S41}
+use Rattle.feed_values.specs.declared.stop_time_properties.StopTimeProperties.{StopTimeProperties}
 use Rattle.feed_values.specs.declared.stop_time_update.StopTimeUpdate.{StopTimeUpdate}
+use Rattle.std.specs.Option.{is_none}
 use Rattle.rule_table.specs.Judged.{places_at}
 use Rattle.rule_clear.specs.Sound.{AreUpdates, IsUpdateAt, StandsAlone, ComesAfter, IsSound, Follows, cells_at, cells_in}
 
@@ -54,12 +56,17 @@ behind e i v S37 h k = rw (or_true (i == 0), k.held, k.item) refl
 behind e i v S38 h k = rw (or_true (i == 0), k.held, k.item) refl
 behind e i v S39 h k = rw (or_true (i == 0), k.held, k.item) refl
 behind e i v S40 h k = rw (or_true (i == 0), k.held, k.item) refl
+behind e i v S41 h k = rw (or_true (i == 0), k.held, k.item) refl
 behind e i v _ h k = absurd cc
 
 of_event : (held : Option StopTimeEvent) (f : StopTimeEvent → CellValue) (g : Value stop_time_event → CellValue) → ((event : StopTimeEvent) → f event ≡ g (stop_time_event_value event))
     → option_case held Missing f ≡ option_case (option_map stop_time_event_value held) Missing g
 of_event None f g h = refl
 of_event (Some event) f g h = h event
+
+no_properties : (held : Option StopTimeProperties) → is_none held ≡ true → option_case (option_map stop_time_properties_value held) Missing (λ v. text_cell v.0) ≡ Missing
+no_properties None h = refl
+no_properties (Some x) h = absurd (cc h)
 
 -- the cells that an update says, where they are those of an entity
 module _ (e : Value entity) (i : ℕ) (stop : StopTimeUpdate) (k : IsUpdateAt e i (stop_time_update_value stop)) where
@@ -92,6 +99,10 @@ module _ (e : Value entity) (i : ℕ) (stop : StopTimeUpdate) (k : IsUpdateAt e 
 
   pub departure_time : option_case stop.departure Missing (λ event. number_cell event.time) ≡ there S40
   departure_time = of_event stop.departure (λ event. number_cell event.time) (λ v. number_cell v.1.0) (λ _. refl) ∙ sym (behind e i (stop_time_update_value stop) S40 refl k)
+
+  -- where it has no properties no other stop is assigned
+  pub unassigned : is_none stop.stop_time_properties ≡ true → there S41 ≡ Missing
+  unassigned h = behind e i (stop_time_update_value stop) S41 refl k ∙ no_properties stop.stop_time_properties h
 
   cells : cells_in stop ≡ cells_at e i
   cells = cc (sequence, id, relationship, arrival, arrival_delay, arrival_time, departure, departure_delay, departure_time)

@@ -1,5 +1,6 @@
 //! Slots at which some rules are known to break nowhere, so that they needn't be judged there.
 ghost use Rattle.std.specs.Prelude.{◌≡◌, Option, true, is_some, length};
+ghost use Rattle.std.specs.Option.{is_none};
 ghost use Rattle.std.specs.List.{list_all};
 ghost use Rattle.feed_values.specs.Views.{entity_value};
 ghost use Rattle.feed_values.specs.declared.cell_value.CellValue.{CellValue};
@@ -29,7 +30,7 @@ pub(crate) enum Look {
     Soundness,
     /// Whether each gives its schedule_relationship.
     Relationships,
-    /// Whether each keeps to the timetable, and whether each gives its stop_sequence.
+    /// Whether each keeps to the timetable, whether each gives its stop_sequence, and whether none assigns another stop.
     Timetable,
     /// All of these.
     Everything,
@@ -47,6 +48,8 @@ pub struct Clear {
     kept: bool,
     /// Each gives its stop_sequence.
     sequenced: bool,
+    /// None assigns another stop.
+    unassigned: bool,
     /// The entity has no trip update.
     without_update: bool,
     /// The entity has no vehicle position.
@@ -60,6 +63,7 @@ enum Settling {
     Relationships,
     Timetable,
     Sequences,
+    Assignments,
     NoTripUpdate,
     NoVehicle,
     Nothing,
@@ -79,6 +83,13 @@ fn are_sequenced(stops: &[StopTimeUpdate]) -> bool
     ensures { result ≡ list_all (λ stop. is_some stop.stop_sequence) stops.now }
 {
     stops.iter().all(|stop| stop.stop_sequence.is_some())
+}
+
+/// Whether no update assigns another stop than the timetable's.
+fn are_unassigned(stops: &[StopTimeUpdate]) -> bool
+    ensures { result ≡ list_all (λ stop. is_none stop.stop_time_properties) stops.now }
+{
+    stops.iter().all(|stop| stop.stop_time_properties.is_none())
 }
 
 impl Look {
@@ -113,6 +124,12 @@ impl Look {
         self.has(Look::Timetable) && are_sequenced(stops)
     }
 
+    fn sees_unassigned(self, stops: &[StopTimeUpdate]) -> bool
+        ensures { result ≡ true → list_all (λ stop. is_none stop.stop_time_properties) stops.now ≡ true }
+    {
+        self.has(Look::Timetable) && are_unassigned(stops)
+    }
+
     /// What is seen at an entity, for all that answers as the entity and the timetable do. Where there are no updates there is
     /// nothing to be seen of them.
     pub fn at(self, table: &Timetable, entity: &Entity) -> Clear
@@ -132,6 +149,7 @@ impl Look {
             related: self.sees_related(stops),
             kept: self.sees_kept(table, entity, stops),
             sequenced: self.sees_sequenced(stops),
+            unassigned: self.sees_unassigned(stops),
             without_update: false,
             without_vehicle: entity.vehicle.is_none(),
         }
@@ -156,6 +174,7 @@ fn what_settles(rule: RuleId, slot: Slot) -> Settling
         (RuleId::E046, Slot::UPDATE_ARRIVAL | Slot::UPDATE_DEPARTURE) => Settling::Timetable,
         (RuleId::E051, Slot::UPDATE_STOP_SEQUENCE) => Settling::Timetable,
         (RuleId::E009, Slot::UPDATE_STOP_SEQUENCE) => Settling::Sequences,
+        (RuleId::E011 | RuleId::E015, Slot::UPDATE_ASSIGNED_STOP_ID) => Settling::Assignments,
         (RuleId::E001 | RuleId::E012 | RuleId::E050 | RuleId::W001, Slot::UPDATE_TIMESTAMP) => {
             Settling::NoTripUpdate
         }
@@ -165,7 +184,9 @@ fn what_settles(rule: RuleId, slot: Slot) -> Settling
         ) => { Settling::NoTripUpdate }
         (RuleId::E019 | RuleId::E020 | RuleId::E023, Slot::UPDATE_START_TIME) =>
             Settling::NoTripUpdate,
-        (RuleId::E021, Slot::UPDATE_START_DATE) => Settling::NoTripUpdate,
+        (RuleId::E020, Slot::UPDATE_PROPERTIES_START_TIME) => Settling::NoTripUpdate,
+        (RuleId::E021, Slot::UPDATE_START_DATE | Slot::UPDATE_PROPERTIES_START_DATE) =>
+            Settling::NoTripUpdate,
         (RuleId::E013 | RuleId::W009, Slot::UPDATE_TRIP_RELATIONSHIP) => Settling::NoTripUpdate,
         (RuleId::E004 | RuleId::E035, Slot::UPDATE_ROUTE_ID) => Settling::NoTripUpdate,
         (RuleId::E024, Slot::UPDATE_DIRECTION_ID) => Settling::NoTripUpdate,
@@ -203,13 +224,14 @@ impl Clear {
             related: false,
             kept: false,
             sequenced: false,
+            unassigned: false,
             without_update: entity.trip_update.is_none(),
             without_vehicle: entity.vehicle.is_none(),
         }
     }
 
     /// All that looks at an entity show, once for all rules: which messages it hasn't, and whether its stop time updates are
-    /// sound, keep to the timetable, and give their schedule_relationship and their stop_sequence.
+    /// sound, keep to the timetable, give their schedule_relationship and their stop_sequence, and assign no other stop.
     pub fn of(table: &Timetable, entity: &Entity) -> Clear
         ensures { (key : EntityKey) (answer : Ask → Option CellValue)
             → SameFrom is_local (local_answer (tables_of table.now) key (entity_value entity.now)) answer
@@ -228,6 +250,7 @@ impl ClearSlots for Clear {
             Settling::Relationships => self.related,
             Settling::Timetable => self.kept,
             Settling::Sequences => self.sequenced,
+            Settling::Assignments => self.unassigned,
             Settling::NoTripUpdate => self.without_update,
             Settling::NoVehicle => self.without_vehicle,
             Settling::Nothing => false,

@@ -6,7 +6,7 @@ use Rattle.std.proofs.Math.Nat.{eq-or-lt_of_le}
 use borrow.Author.Tests.{eqb-true}
 use Rattle.std.proofs.lemmas.Bool.{and_parts, or_cases}
 use Rattle.feed_values.specs.declared.slot.Slot.{Slot}
-use Rattle.feed_values.specs.declared.slot.Slot.TheVariants.{S1, S2, S3, S10, S11, S20, S21, S22, S23, S24, S25, S26, S27, S28, S29, S30, S31, S32, S33, S34, S35, S36, S37, S38, S39, S40, S50, S51, S52, S53, S54, S55, S56, S57, S58, S59, S60, S70, S71, S72, S73, S74, S75, S76, S77, S78, S79, S80, S81, S82, S83, S84, S85}
+use Rattle.feed_values.specs.declared.slot.Slot.TheVariants.{S1, S2, S3, S4, S10, S11, S20, S21, S22, S23, S24, S25, S26, S27, S28, S29, S30, S31, S32, S33, S34, S35, S36, S37, S38, S39, S40, S41, S42, S43, S44, S50, S51, S52, S53, S54, S55, S56, S57, S58, S59, S60, S70, S71, S72, S73, S74, S75, S76, S77, S78, S79, S80, S81, S82, S83, S84, S85}
 use Rattle.feed_values.specs.declared.path.Path.{Path}
 use Rattle.feed_values.specs.declared.cell_value.CellValue.{CellValue}
 use Rattle.feed_values.specs.declared.cell_value.CellValue.TheVariants as value
@@ -71,6 +71,7 @@ cell_there : (s : Slot) (i : ℕ) (e : Value entity) → has_item (way s) ≡ tr
 cell_there S1 i e x h = cc
 cell_there S2 i e x h = cc
 cell_there S3 i e x h = cc
+cell_there S4 i e x h = cc
 cell_there S10 i e x h = cc
 cell_there S11 i e x h = cc
 cell_there S20 i e x h = cc
@@ -94,6 +95,10 @@ cell_there S37 i e x h = update_there (update_of e) i (λ w. cell_in stop_time_u
 cell_there S38 i e x h = update_there (update_of e) i (λ w. cell_in stop_time_update w i (drop 2 (way S38))) (read i (cell_in entity e i (way S38)) h)
 cell_there S39 i e x h = update_there (update_of e) i (λ w. cell_in stop_time_update w i (drop 2 (way S39))) (read i (cell_in entity e i (way S39)) h)
 cell_there S40 i e x h = update_there (update_of e) i (λ w. cell_in stop_time_update w i (drop 2 (way S40))) (read i (cell_in entity e i (way S40)) h)
+cell_there S41 i e x h = update_there (update_of e) i (λ w. cell_in stop_time_update w i (drop 2 (way S41))) (read i (cell_in entity e i (way S41)) h)
+cell_there S42 i e x h = cc
+cell_there S43 i e x h = cc
+cell_there S44 i e x h = cc
 cell_there S50 i e x h = cc
 cell_there S51 i e x h = cc
 cell_there S52 i e x h = cc
@@ -126,6 +131,7 @@ pub one_place : (s : Slot) (e : Value entity) → has_item (way s) ≡ false →
 one_place S1 e x = refl
 one_place S2 e x = refl
 one_place S3 e x = refl
+one_place S4 e x = refl
 one_place S10 e x = refl
 one_place S11 e x = refl
 one_place S20 e x = refl
@@ -149,6 +155,10 @@ one_place S37 e x = cc
 one_place S38 e x = cc
 one_place S39 e x = cc
 one_place S40 e x = cc
+one_place S41 e x = cc
+one_place S42 e x = refl
+one_place S43 e x = refl
+one_place S44 e x = refl
 one_place S50 e x = refl
 one_place S51 e x = refl
 one_place S52 e x = refl
@@ -188,6 +198,7 @@ places_number : (s : Slot) (e : Value entity) → places_at e s ≡ places_of e 
 places_number S1 e = refl
 places_number S2 e = refl
 places_number S3 e = refl
+places_number S4 e = refl
 places_number S10 e = refl
 places_number S11 e = refl
 places_number S20 e = refl
@@ -211,6 +222,10 @@ places_number S37 e = refl
 places_number S38 e = refl
 places_number S39 e = refl
 places_number S40 e = refl
+places_number S41 e = refl
+places_number S42 e = refl
+places_number S43 e = refl
+places_number S44 e = refl
 places_number S50 e = refl
 places_number S51 e = refl
 places_number S52 e = refl

@@ -4,7 +4,7 @@ use Rattle.std.specs.declared.cmp.Ordering.{Ordering}
 use Rattle.std.specs.Ordering.{nat_cmp, ordering_then}
 use Rattle.std.specs.Cmp.Lexicographic.{slice_cmp}
 use Rattle.feed_values.specs.declared.slot.Slot.{Slot}
-use Rattle.feed_values.specs.declared.slot.Slot.TheVariants.{S1, S2, S3, S10, S11, S20, S21, S22, S23, S24, S25, S26, S27, S28, S29, S30, S31, S32, S33, S34, S35, S36, S37, S38, S39, S40, S50, S51, S52, S53, S54, S55, S56, S57, S58, S59, S60, S70, S71, S72, S73, S74, S75, S76, S77, S78, S79, S80, S81, S82, S83, S84, S85}
+use Rattle.feed_values.specs.declared.slot.Slot.TheVariants.{S1, S2, S3, S4, S10, S11, S20, S21, S22, S23, S24, S25, S26, S27, S28, S29, S30, S31, S32, S33, S34, S35, S36, S37, S38, S39, S40, S41, S42, S43, S44, S50, S51, S52, S53, S54, S55, S56, S57, S58, S59, S60, S70, S71, S72, S73, S74, S75, S76, S77, S78, S79, S80, S81, S82, S83, S84, S85}
 use Rattle.feed_values.specs.declared.path.Path.{Path}
 use Rattle.rule_table.specs.declared.key.EntityKey.{EntityKey}
 use Rattle.rule_table.specs.declared.place.Place.{Place}
@@ -22,6 +22,7 @@ abbrev pub slot_number : Slot → ℕ
 slot_number S1 = 1
 slot_number S2 = 2
 slot_number S3 = 3
+slot_number S4 = 4
 slot_number S10 = 10
 slot_number S11 = 11
 slot_number S20 = 20
@@ -45,6 +46,10 @@ slot_number S37 = 37
 slot_number S38 = 38
 slot_number S39 = 39
 slot_number S40 = 40
+slot_number S41 = 41
+slot_number S42 = 42
+slot_number S43 = 43
+slot_number S44 = 44
 slot_number S50 = 50
 slot_number S51 = 51
 slot_number S52 = 52

@@ -3,7 +3,7 @@
 -- of MobilityData's gtfs-realtime-validator, RULES.md, and nothing else of it.)
 use Rattle.std.specs.Prelude.{ℕ, List, [], ◌∷◌}
 use Rattle.feed_values.specs.declared.slot.Slot.{Slot}
-use Rattle.feed_values.specs.SlotNames.{header_version, header_incrementality, header_timestamp, entity_id, entity_is_deleted, update, update_trip_id, update_start_time, update_start_date, update_trip_relationship, update_route_id, update_direction_id, update_stops, update_vehicle_id, update_timestamp, update_stop, update_stop_sequence, update_stop_id, update_stop_relationship, update_arrival, update_arrival_time, update_departure, update_departure_time, vehicle_trip_id, vehicle_start_time, vehicle_start_date, vehicle_trip_relationship, vehicle_route_id, vehicle_direction_id, vehicle_id, vehicle_timestamp, vehicle_stop_id, alert_start, alert_end, alert_selectors, alert_selector, alert_agency_id, alert_route_id, alert_route_type, alert_trip, alert_trip_id, alert_start_time, alert_start_date, alert_trip_route_id, alert_direction_id, alert_stop_id}
+use Rattle.feed_values.specs.SlotNames.{header_version, header_incrementality, header_timestamp, entity_id, entity_is_deleted, update, update_trip_id, update_start_time, update_start_date, update_trip_relationship, update_route_id, update_direction_id, update_stops, update_vehicle_id, update_timestamp, update_stop, update_stop_sequence, update_stop_id, update_stop_relationship, update_arrival, update_arrival_time, update_departure, update_departure_time, update_assigned_stop_id, update_properties_start_date, update_properties_start_time, vehicle_trip_id, vehicle_start_time, vehicle_start_date, vehicle_trip_relationship, vehicle_route_id, vehicle_direction_id, vehicle_id, vehicle_timestamp, vehicle_stop_id, alert_start, alert_end, alert_selectors, alert_selector, alert_agency_id, alert_route_id, alert_route_type, alert_trip, alert_trip_id, alert_start_time, alert_start_date, alert_trip_route_id, alert_direction_id, alert_stop_id}
 use Rattle.rule_table.specs.declared.rule.RuleId.{RuleId}
 use Rattle.rule_table.specs.declared.rule.RuleId.TheVariants.{E001, E002, E003, E004, E006, E009, E011, E012, E013, E015, E016, E017, E018, E019, E020, E021, E022, E023, E024, E025, E030, E031, E032, E033, E034, E035, E036, E037, E038, E039, E040, E041, E042, E043, E044, E045, E046, E047, E048, E049, E050, E051, E052, W001, W002, W003, W005, W006, W007, W008, W009, X002}
 use Rattle.rule_table.specs.declared.row.Cite.{Cite}
@@ -23,14 +23,14 @@ slots_of E003 = update_trip_id ∷ vehicle_trip_id ∷ alert_trip_id ∷ []
 slots_of E004 = update_route_id ∷ vehicle_route_id ∷ alert_route_id ∷ alert_trip_route_id ∷ []
 slots_of E006 = update_trip_id ∷ vehicle_trip_id ∷ []
 slots_of E009 = update_stop_sequence ∷ []
-slots_of E011 = update_stop_id ∷ vehicle_stop_id ∷ alert_stop_id ∷ []
+slots_of E011 = update_stop_id ∷ update_assigned_stop_id ∷ vehicle_stop_id ∷ alert_stop_id ∷ []
 slots_of E012 = update_timestamp ∷ vehicle_timestamp ∷ []
 slots_of E013 = update_trip_relationship ∷ vehicle_trip_relationship ∷ []
-slots_of E015 = update_stop_id ∷ vehicle_stop_id ∷ []
+slots_of E015 = update_stop_id ∷ update_assigned_stop_id ∷ vehicle_stop_id ∷ []
 slots_of E016 = update_trip_id ∷ vehicle_trip_id ∷ alert_trip_id ∷ []
 slots_of E019 = update_start_time ∷ vehicle_start_time ∷ []
-slots_of E020 = update_start_time ∷ vehicle_start_time ∷ alert_start_time ∷ []
-slots_of E021 = update_start_date ∷ vehicle_start_date ∷ alert_start_date ∷ []
+slots_of E020 = update_start_time ∷ update_properties_start_time ∷ vehicle_start_time ∷ alert_start_time ∷ []
+slots_of E021 = update_start_date ∷ update_properties_start_date ∷ vehicle_start_date ∷ alert_start_date ∷ []
 slots_of E022 = update_stop ∷ []
 slots_of E023 = update_start_time ∷ vehicle_start_time ∷ []
 slots_of E024 = update_direction_id ∷ vehicle_direction_id ∷ alert_direction_id ∷ []

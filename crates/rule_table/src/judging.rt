@@ -24,12 +24,12 @@ use crate::place::PlaceRef;
 use crate::rule::RuleId;
 use crate::settled::is_settled;
 use crate::table::{cites_at, first, head_slots, slots, test_at};
-use feed_values::{Alert, Entity, Path, Slot, TripUpdate};
+use feed_values::{Alert, Apart, Entity, Path, Slot, TripUpdate};
 use rt_outside::Steps;
 use std::alloc::{AllocError, Global};
 use std::sync::ledger::Ledger;
 
-fn updates(held: &Option<TripUpdate>) -> usize
+fn updates(held: &Option<Apart<TripUpdate>>) -> usize
     ensures { result ≡ updates_in (option_map trip_update_value held.now) }
 {
     match held {
@@ -38,7 +38,7 @@ fn updates(held: &Option<TripUpdate>) -> usize
     }
 }
 
-fn periods(held: &Option<Alert>) -> usize
+fn periods(held: &Option<Apart<Alert>>) -> usize
     ensures { result ≡ periods_in (option_map alert_value held.now) }
 {
     match held {
@@ -47,7 +47,7 @@ fn periods(held: &Option<Alert>) -> usize
     }
 }
 
-fn selectors(held: &Option<Alert>) -> usize
+fn selectors(held: &Option<Apart<Alert>>) -> usize
     ensures { result ≡ selectors_in (option_map alert_value held.now) }
 {
     match held {
@@ -70,7 +70,8 @@ fn places(entity: &Entity, slot: Slot) -> usize
         | Slot::UPDATE_ARRIVAL_TIME
         | Slot::UPDATE_DEPARTURE
         | Slot::UPDATE_DEPARTURE_DELAY
-        | Slot::UPDATE_DEPARTURE_TIME => updates(&entity.trip_update),
+        | Slot::UPDATE_DEPARTURE_TIME
+        | Slot::UPDATE_ASSIGNED_STOP_ID => updates(&entity.trip_update),
         Slot::ALERT_START | Slot::ALERT_END => periods(&entity.alert),
         Slot::ALERT_SELECTOR
         | Slot::ALERT_AGENCY_ID

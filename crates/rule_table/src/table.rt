@@ -98,6 +98,7 @@ pub fn slots(rule: RuleId) -> &'static [Slot]
         RuleId::E009 => &[Slot::UPDATE_STOP_SEQUENCE],
         RuleId::E011 => &[
             Slot::UPDATE_STOP_ID,
+            Slot::UPDATE_ASSIGNED_STOP_ID,
             Slot::VEHICLE_STOP_ID,
             Slot::ALERT_STOP_ID,
         ],
@@ -106,7 +107,11 @@ pub fn slots(rule: RuleId) -> &'static [Slot]
             Slot::UPDATE_TRIP_RELATIONSHIP,
             Slot::VEHICLE_TRIP_RELATIONSHIP,
         ],
-        RuleId::E015 => &[Slot::UPDATE_STOP_ID, Slot::VEHICLE_STOP_ID],
+        RuleId::E015 => &[
+            Slot::UPDATE_STOP_ID,
+            Slot::UPDATE_ASSIGNED_STOP_ID,
+            Slot::VEHICLE_STOP_ID,
+        ],
         RuleId::E016 => &[
             Slot::UPDATE_TRIP_ID,
             Slot::VEHICLE_TRIP_ID,
@@ -115,11 +120,13 @@ pub fn slots(rule: RuleId) -> &'static [Slot]
         RuleId::E019 => &[Slot::UPDATE_START_TIME, Slot::VEHICLE_START_TIME],
         RuleId::E020 => &[
             Slot::UPDATE_START_TIME,
+            Slot::UPDATE_PROPERTIES_START_TIME,
             Slot::VEHICLE_START_TIME,
             Slot::ALERT_START_TIME,
         ],
         RuleId::E021 => &[
             Slot::UPDATE_START_DATE,
+            Slot::UPDATE_PROPERTIES_START_DATE,
             Slot::VEHICLE_START_DATE,
             Slot::ALERT_START_DATE,
         ],

@@ -43,6 +43,7 @@ no_payload schema.I64 z = refl
 no_payload schema.Bits32 z = refl
 no_payload schema.Bits64 z = refl
 no_payload (schema.Enum first last) z = refl
+no_payload (schema.EnumOr first last more) z = refl
 
 scalar_long : (n : ℕ) (t : Scalar) (z : ℤ) → length (spelled_slot n (scalar_value t z)) ≤ 20
 scalar_long n t z = omega (arith, slot_long n (scalar_value t z), no_payload t z)

@@ -51,6 +51,7 @@ stop_update delay = record {
   departure = None;
   stop_id = None;
   schedule_relationship = Some 0;
+  stop_time_properties = None;
   unknown = [];
 }
 
@@ -65,6 +66,7 @@ update_entity k e = record {
     vehicle = Some (vehicle_of k e.letter);
     timestamp = Some start_time;
     delay = None;
+    trip_properties = None;
     unknown = [];
   });
   vehicle = None;
@@ -120,6 +122,7 @@ header_of number = record {
   gtfs_realtime_version = codes "2.0";
   incrementality = Some 0;
   timestamp = Some (moment_of number);
+  feed_version = None;
   unknown = [];
 }
 

@@ -6,7 +6,7 @@ ghost use Rattle.trial_feed.specs.Messages.{numbered, trip_of, vehicle_of, stop_
 use crate::entity_state::EntityState;
 use crate::letter::Letter;
 use feed_values::{
-    Entity, Items, StopTimeEvent, StopTimeUpdate, Text, TripDescriptor, TripUpdate,
+    Apart, Entity, Items, StopTimeEvent, StopTimeUpdate, Text, TripDescriptor, TripUpdate,
     VehicleDescriptor, VehiclePosition,
 };
 use std::alloc::{AllocError, Global};
@@ -68,6 +68,7 @@ fn stop_updates(alloc: Global, delay: u32) -> Result<Items<StopTimeUpdate>, Allo
         departure: None,
         stop_id: None,
         schedule_relationship: Some(SCHEDULED),
+        stop_time_properties: None,
         unknown: Items::new(alloc),
     })?;
     Ok(updates)
@@ -84,12 +85,13 @@ fn update_entity(alloc: Global, k: usize, state: EntityState) -> Result<Entity, 
         vehicle: Some(vehicle(alloc, k, state.letter)?),
         timestamp: Some(START),
         delay: None,
+        trip_properties: None,
         unknown: Items::new(alloc),
     };
     Ok(Entity {
         id: numbered(alloc, "u", k)?,
         is_deleted: None,
-        trip_update: Some(update),
+        trip_update: Some(Apart::new(alloc, update)?),
         vehicle: None,
         alert: None,
         unknown: Items::new(alloc),
@@ -116,7 +118,7 @@ fn position_entity(alloc: Global, k: usize, state: EntityState) -> Result<Entity
         id: numbered(alloc, "p", k)?,
         is_deleted: None,
         trip_update: None,
-        vehicle: Some(position),
+        vehicle: Some(Apart::new(alloc, position)?),
         alert: None,
         unknown: Items::new(alloc),
     })

@@ -140,6 +140,7 @@ fn header(alloc: Global, number: u64) -> Result<FeedHeader, AllocError>
         gtfs_realtime_version: version,
         incrementality: Some(0),
         timestamp: Some(moment_of(number)),
+        feed_version: None,
         unknown: Items::new(alloc),
     })
 }

@@ -1,8 +1,8 @@
 //! The snapshot, its header and its entities, written.
 
 use crate::encoding::{
-    Encode, put_bool, put_enum, put_message, put_optional, put_repeated, put_text, put_u64,
-    put_unknown,
+    Encode, put_apart, put_bool, put_enum, put_message, put_optional_text, put_repeated, put_text,
+    put_u64, put_unknown,
 };
 use feed_values::{Entity, FeedHeader, FeedMessage};
 use std::alloc::{AllocError, Global};
@@ -20,6 +20,7 @@ impl Encode for FeedHeader {
         put_text(out, 1, &self.gtfs_realtime_version)?;
         put_enum(out, 2, self.incrementality)?;
         put_u64(out, 3, self.timestamp)?;
+        put_optional_text(out, 4, &self.feed_version)?;
         put_unknown::<FeedHeader>(out, &self.unknown)
     }
 }
@@ -28,9 +29,9 @@ impl Encode for Entity {
     fn put(&self, alloc: Global, out: &mut Vec<u8>) -> Result<(), AllocError> {
         put_text(out, 1, &self.id)?;
         put_bool(out, 2, self.is_deleted)?;
-        put_optional(alloc, out, 3, &self.trip_update)?;
-        put_optional(alloc, out, 4, &self.vehicle)?;
-        put_optional(alloc, out, 5, &self.alert)?;
+        put_apart(alloc, out, 3, &self.trip_update)?;
+        put_apart(alloc, out, 4, &self.vehicle)?;
+        put_apart(alloc, out, 5, &self.alert)?;
         put_unknown::<Entity>(out, &self.unknown)
     }
 }

@@ -1,8 +1,8 @@
 //! Trip updates and what they hold, written.
 
 use crate::encoding::{
-    Encode, put_enum, put_i32, put_i64, put_message, put_optional, put_optional_text, put_repeated,
-    put_u32, put_u64, put_unknown,
+    Encode, put_apart, put_enum, put_i32, put_i64, put_message, put_optional, put_optional_text,
+    put_repeated, put_u32, put_u64, put_unknown,
 };
 use feed_values::{StopTimeEvent, StopTimeUpdate, TripUpdate};
 use std::alloc::{AllocError, Global};
@@ -14,6 +14,7 @@ impl Encode for TripUpdate {
         put_optional(alloc, out, 3, &self.vehicle)?;
         put_u64(out, 4, self.timestamp)?;
         put_i32(out, 5, self.delay)?;
+        put_apart(alloc, out, 6, &self.trip_properties)?;
         put_unknown::<TripUpdate>(out, &self.unknown)
     }
 }
@@ -25,6 +26,7 @@ impl Encode for StopTimeUpdate {
         put_optional(alloc, out, 3, &self.departure)?;
         put_optional_text(out, 4, &self.stop_id)?;
         put_enum(out, 5, self.schedule_relationship)?;
+        put_apart(alloc, out, 6, &self.stop_time_properties)?;
         put_unknown::<StopTimeUpdate>(out, &self.unknown)
     }
 }
