@@ -11,6 +11,13 @@ pub struct Sinks {
     pub err: MemorySink,
 }
 
+/// The status of a run, and its sinks.
+#[derive(Drop)]
+pub struct Ended {
+    pub status: u8,
+    pub sinks: Sinks,
+}
+
 /// The status and what was written to the error stream, on a line.
 pub fn say_status(
     alloc: Global,
@@ -57,4 +64,64 @@ pub fn say_members(
         say(answer, format!(in alloc; "{name} {value}")?.as_str())?;
     }
     Ok(())
+}
+
+// A text, and the status and what was written to the error stream.
+fn with_status(alloc: Global, text: &str, ended: &Ended) -> Result<Vec<u8>, AllocError> {
+    let mut told = Vec::from_slice(alloc, text.as_bytes())?;
+    say_status(alloc, ended.status, ended.sinks.err.written(), &mut told)?;
+    Ok(told)
+}
+
+fn line_count(text: &[u8]) -> u64 {
+    let mut count: u64 = 0;
+    for byte in text {
+        if *byte == b'\n' {
+            count = count.saturating_add(1);
+        }
+    }
+    count
+}
+
+/// Whether a run wrote a whole report, nothing, or how many lines of it; its status, and what it wrote to the error stream. What isn't a front of
+/// the report is told.
+pub fn told_lines(alloc: Global, ended: &Ended, whole: &Ended) -> Result<Vec<u8>, AllocError> {
+    let out = ended.sinks.out.written();
+    let whole = whole.sinks.out.written();
+    if !whole.starts_with(out) {
+        return with_status(alloc, "no front of it, ", ended);
+    }
+    if out == whole {
+        return with_status(
+            alloc,
+            if out.is_empty() { "nothing, " } else { "all, " },
+            ended,
+        );
+    }
+    let text = match line_count(out) {
+        0 => String::from_str(alloc, "nothing, ")?,
+        1 => String::from_str(alloc, "1 line, ")?,
+        count => format!(in alloc; "{count} lines, ")?,
+    };
+    with_status(alloc, text.as_str(), ended)
+}
+
+/// Whether a run that had so much room filled it with a front of a whole report, or wrote all of it; its status, and what it wrote to the
+/// error stream.
+pub fn told_filled(
+    alloc: Global,
+    ended: &Ended,
+    whole: &Ended,
+    room: usize,
+) -> Result<Vec<u8>, AllocError> {
+    let out = ended.sinks.out.written();
+    let whole = whole.sinks.out.written();
+    let text = if out == whole {
+        "all, "
+    } else if out.len() == room && whole.starts_with(out) {
+        "filled, "
+    } else {
+        "no front of it, "
+    };
+    with_status(alloc, text, ended)
 }

@@ -2,7 +2,7 @@
 //!
 //! - `setting` has what stands before a run: its files, its moment, and which calls are to fail; `odd_files` are files that give a
 //!   byte at a time, or have no end
-//! - `runs` runs, and `ended` tells what a run has left
+//! - `runs` runs, `ended` tells what a run has left, and `spans` tells once what is the same of runs in a row
 //! - `trials` asks what the trial makes
 //!
 //! The answers of `wrong.cases` are wrong on purpose: `stdout` has what is told of them, so that the gate sees that a wrong answer is
@@ -13,6 +13,7 @@ mod ended;
 mod odd_files;
 mod runs;
 mod setting;
+mod spans;
 mod trials;
 
 use crate::runs::Runs;

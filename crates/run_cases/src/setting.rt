@@ -87,10 +87,15 @@ impl Setting {
             Some(kept) => self.files.truncate(kept),
             None => self.kept = Some(self.files.len()),
         }
+        self.clear_faults();
+        self.giving = Giving::AsAsked;
+    }
+
+    /// No call is to fail, and the sinks have much room.
+    pub fn clear_faults(&mut self) {
         self.failing.clear();
         self.out.begin();
         self.err.begin();
-        self.giving = Giving::AsAsked;
     }
 
     fn put(&mut self, name: &str, bytes: Vec<u8>) -> Result<(), AllocError> {
@@ -113,7 +118,14 @@ impl Setting {
         Ok(())
     }
 
-    fn limit(&mut self, what: &str, room: usize) {
+    /// This call of the files, or of a sink, is to fail, and no other.
+    pub fn fail_alone(&mut self, what: &str, call: u64) -> Result<(), AllocError> {
+        self.clear_faults();
+        self.fail(what, call)
+    }
+
+    /// A sink has room for so many bytes.
+    pub fn limit(&mut self, what: &str, room: usize) {
         if what == "err" {
             self.err.room = room;
         } else {
