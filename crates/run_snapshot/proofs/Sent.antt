@@ -25,6 +25,10 @@ pub more_ok : {T E A B : Type 0} (r : Result T E) → (A → B) → OnOk r A →
 more_ok (Ok x) f a = f a
 more_ok (Err e) f a = tt
 
+-- nothing was sent
+pub none_sent : {T E : Type 0} (r : Result T E) (now : Option (List ℕ)) (held : Lines) (all : List Found) → OnErr r (SendsPart now now held all)
+none_sent r now held all = at_err r (AppendsPrefix-nothing now (held.text.items ++ flat_map finding_text all))
+
 -- ---- while entities are judged
 module _ (before : Option (List ℕ)) (first : Lines) (all : List Found) where
   -- what was sent, the lines that are held back and those of the findings that are left are all
