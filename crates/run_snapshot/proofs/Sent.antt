@@ -5,7 +5,7 @@ use Rattle.std.specs.List.{flat_map}
 use Rattle.std.specs.Io.KnownBytes.{append_known}
 use Rattle.std.proofs.lemmas.List.{append-nil}
 use Rattle.rt_outside.specs.Sink.{AppendsPrefix}
-use Rattle.rt_outside.proofs.Appends.{append_known-both, append_known-nil, AppendsPrefix-first, AppendsPrefix-second, AppendsPrefix-whole}
+use Rattle.rt_outside.proofs.Appends.{append_known-both, append_known-nil, AppendsPrefix-nothing, AppendsPrefix-first, AppendsPrefix-second, AppendsPrefix-whole}
 use Rattle.rule_table.specs.Found.{Found}
 use Rattle.rt_report.specs.declared.lines.Lines.{Lines}
 use Rattle.rt_report.specs.FindingLines.{AddsLines, finding_text, has_error}
