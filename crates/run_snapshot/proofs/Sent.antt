@@ -5,7 +5,7 @@ use Rattle.std.specs.List.{flat_map}
 use Rattle.std.specs.Io.KnownBytes.{append_known}
 use Rattle.std.proofs.lemmas.List.{append-nil}
 use Rattle.rt_outside.specs.Sink.{AppendsPrefix}
-use Rattle.rt_outside.proofs.Appends.{append_known-both, append_known-nil, AppendsPrefix-first, AppendsPrefix-second, AppendsPrefix-whole}
+use Rattle.rt_outside.proofs.Appends.{append_known-both, append_known-nil, AppendsPrefix-nothing, AppendsPrefix-first, AppendsPrefix-second, AppendsPrefix-whole}
 use Rattle.rule_table.specs.Found.{Found}
 use Rattle.rt_report.specs.declared.lines.Lines.{Lines}
 use Rattle.rt_report.specs.FindingLines.{AddsLines, finding_text, has_error}
@@ -24,6 +24,10 @@ more_err (Err e) f a = f a
 pub more_ok : {T E A B : Type 0} (r : Result T E) → (A → B) → OnOk r A → OnOk r B
 more_ok (Ok x) f a = f a
 more_ok (Err e) f a = tt
+
+-- nothing was sent
+pub none_sent : {T E : Type 0} (r : Result T E) (now : Option (List ℕ)) (held : Lines) (all : List Found) → OnErr r (SendsPart now now held all)
+none_sent r now held all = at_err r (AppendsPrefix-nothing now (held.text.items ++ flat_map finding_text all))
 
 -- ---- while entities are judged
 module _ (before : Option (List ℕ)) (first : Lines) (all : List Found) where

@@ -4,11 +4,11 @@ use Rattle.feed_values.specs.Views.{feed_header_value}
 use Rattle.rule_history.specs.Answered.{Heads, tables_of}
 use Rattle.judging.specs.Seats.{Rising, seats}
 use Rattle.judging.specs.Whole.{header_found}
-use Rattle.judging.specs.Judged.{first_heads, seat_rows, found_at_seats}
+use Rattle.judging.specs.Judged.{first_heads, seat_rows, found_at_seats, snapshot_found}
 use Rattle.judging.proofs.OneSnapshot.{seats_rise}
 use Rattle.rt_report.specs.FindingLines.{AddsLines}
 use Rattle.run_snapshot.specs.Sending.{Sends, SendsPart}
-use Rattle.run_snapshot.proofs.Sent.{sends_behind, part_behind, more_ok, more_err}
+use Rattle.run_snapshot.proofs.Sent.{sends_behind, part_behind, more_ok, more_err, none_sent}
 use Rattle.run_snapshot.proofs.findings.send_snapshot.Goals as goal
 
 pub rows_of-requires-clause-rising : goal.rows_of-requires-clause-rising
@@ -48,3 +48,14 @@ returns-clause-part g c =
     ∙ ap (λ s. found_at_seats t (seat_rows s) (first_heads (feed_header_value c.in_ok-header.header) c.args.moment) s) c.in_ok-places.ensures.seats_are
     ∙ ap (λ h. found_at_seats t (seat_rows es) (first_heads h c.args.moment) es) said) part))
     c.send_entities.ensures.part
+
+-- nothing was sent where keys find no memory, or the header's findings
+pub returns-in_err-places-clause-part : goal.returns-in_err-places-clause-part
+returns-in_err-places-clause-part g c =
+    none_sent c.from_residual-in_err-places.result (g.S.Sink.state c.args.out.now).written c.args.lines.now
+    (snapshot_found (tables_of c.args.timetable.now) 0 c.args.moment (header_of c.args.kept.now) (entities_of c.args.kept.now))
+
+pub returns-in_err-judge_header-clause-part : goal.returns-in_err-judge_header-clause-part
+returns-in_err-judge_header-clause-part g c =
+    none_sent c.from_residual-in_err-judge_header.result (g.S.Sink.state c.args.out.now).written c.args.lines.now
+    (snapshot_found (tables_of c.args.timetable.now) 0 c.args.moment (header_of c.args.kept.now) (entities_of c.args.kept.now))
