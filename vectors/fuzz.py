@@ -4,8 +4,8 @@
 It makes a small corpus of each kind of input (snapshots, their JSON, lists, timetables, zones, reports and words), changes what it takes from it,
 and runs the commands that read it. A case is made of the seed and its number alone, so a later run comes upon it again. What counts as wrong:
 
-- a run that ends by a signal, takes more than 20 seconds, or ends with another status than its command may: files can be read here, outputs
-  written, and 4 GiB of addresses are there, so read faults, write faults and want of memory are wrong too;
+- a run that ends by a signal, takes more than 20 seconds, or ends with another status than its command may: outputs can be written and 4 GiB of
+  addresses are there, so write faults and want of memory are wrong too, and so is a read fault of a file that Python reads;
 - lines that aren't JSON in the one form that they have, rows that aren't CSV, or a text on standard error that isn't the status's;
 - a status that isn't that of the lines: 1 exactly where a line is `refused` or a finding of an error;
 - a snapshot that `show`, which reads it whole, refuses otherwise than `check`, which reads it in pieces; one that is accepted, and whose JSON is
@@ -13,9 +13,9 @@ and runs the commands that read it. A case is made of the seed and its number al
 - a finding of `check` that `verify` doesn't confirm, and a list of the same snapshot that `follow` judges otherwise.
 
 The program is crates/rt_command/out/rt_command by default, for 60 seconds, with the seed 1. What was wrong is printed with its case, whose files are
-kept, and the status is then 1. The last line counts runs.
+kept, and the status is then 1. The last line counts runs; SIGTERM ends it early.
 """
-import csv, io, json, os, random, resource, shutil, subprocess, sys, tempfile, time
+import csv, io, json, os, random, resource, shutil, signal, subprocess, sys, tempfile, time
 
 HERE = os.path.dirname(os.path.abspath(__file__))
 sys.path.insert(0, os.path.join(HERE, "../bench"))
@@ -39,18 +39,19 @@ def everything():
     """A snapshot with every kind of message, with groups and with unknown fields."""
     trip = payload(1, payload(1, b"T1") + payload(2, b"08:00:00") + payload(3, b"20231114") + number(4, 0) + payload(5, b"R1") + number(6, 1))
     update = payload(2, number(1, 1) + payload(2, number(1, 60) + number(2, 1700000000) + number(3, 5)) + payload(3, number(1, 2**64 - 60))
-                     + payload(4, b"S1") + number(5, 0)) + payload(2, number(1, 2) + number(5, 2)) + payload(2, payload(4, b"S3") + number(5, 1))
+                     + payload(4, b"S1") + number(5, 0) + payload(6, payload(1, b"S2"))) + payload(2, number(1, 2) + number(5, 2)) + payload(2, payload(4, b"S3") + number(5, 1))
     vehicle = payload(1, b"v1") + payload(2, b"bus") + payload(3, b"ABC")
     place = payload(2, b"\x0d\0\0\x48\x42\x15\0\0\x50\x41\x1d\0\0\xb4\x42\x21\0\0\0\0\0\0\xf0\x3f\x2d\0\0\x20\x41")
     texts = payload(1, payload(1, b"text") + payload(2, b"en")) + payload(1, payload(1, "テキスト".encode()))
     entities = [
-        payload(1, b"a") + payload(3, trip + payload(3, vehicle) + update + number(4, 1700000000) + number(5, 30)),
+        payload(1, b"a") + payload(3, trip + payload(3, vehicle) + update + number(4, 1700000000) + number(5, 30)
+                               + payload(6, payload(1, b"T9") + payload(2, b"20231114") + payload(3, b"08:10:00"))),
         payload(1, b"b") + payload(4, payload(8, vehicle) + trip + place + number(3, 2) + number(4, 1) + number(5, 1700000000) + number(6, 1) + payload(7, b"S2") + number(9, 4)),
         payload(1, b"c") + payload(5, payload(1, number(1, 1700000000) + number(2, 1800000000)) + payload(5, payload(1, b"A1") + payload(2, b"R1") + number(3, 3) + payload(5, b"S1"))
                                    + number(6, 2) + number(7, 3) + payload(8, texts) + payload(10, texts) + payload(11, texts)),
         payload(1, b"d") + number(2, 1) + number(1000, 7) + varint(1000 * 8 + 3) + number(1, 1) + varint(1000 * 8 + 4),
     ]
-    return payload(1, payload(1, b"2.0") + number(2, 0) + number(3, 1700000000) + payload(15, b"x")) + b"".join(payload(2, it) for it in entities)
+    return payload(1, payload(1, b"2.0") + number(2, 0) + number(3, 1700000000) + payload(4, b"v7") + payload(15, b"x")) + b"".join(payload(2, it) for it in entities)
 
 
 def nested():
@@ -257,6 +258,19 @@ def limited():
     resource.setrlimit(resource.RLIMIT_AS, (LIMIT, LIMIT))
 
 
+def is_unreadable(err):
+    """Whether a read fault names what Python can't read either: a name with a zero byte, one that is too long, a folder."""
+    name = err.removeprefix(b"read fault: ").removesuffix(b"\n")
+    try:
+        with open(os.path.join(os.fsencode(FOLDER), name), "rb") as file:
+            file.read(1)
+    except FileNotFoundError:
+        return False
+    except (OSError, ValueError):
+        return True
+    return False
+
+
 def run(words):
     try:
         said = subprocess.run([PROGRAM, *words], capture_output=True, timeout=PATIENCE, preexec_fn=limited, cwd=FOLDER)
@@ -264,6 +278,8 @@ def run(words):
         raise Wrong(f"{words} took more than {PATIENCE} s")
     key = (words[0] if words and words[0] in COMMANDS else "words", said.returncode)
     RUNS[key] = RUNS.get(key, 0) + 1
+    if said.returncode == 3 and is_unreadable(said.stderr):
+        return Run(words, 3, said.stdout, said.stderr)
     beginning = {0: b"", 1: b"", 2: b"usage: rt_command check", 6: b"refused: "}.get(said.returncode)
     if beginning is None:
         raise Wrong(f"{words} ended with {said.returncode}: {said.stderr[:200]}")
@@ -412,8 +428,9 @@ def main():
     seconds = float(sys.argv[2]) if len(sys.argv) > 2 else 60
     seed = sys.argv[3] if len(sys.argv) > 3 else "1"
     held = corpus()
-    end, case, wrong = time.monotonic() + seconds, 0, 0
-    while time.monotonic() < end:
+    end, case, wrong, stopped = time.monotonic() + seconds, 0, 0, []
+    signal.signal(signal.SIGTERM, lambda *_: stopped.append(True))
+    while time.monotonic() < end and not stopped:
         chance = random.Random(f"{seed}/{case}")
         kind = chance.choice(KINDS)
         try:
