@@ -5,12 +5,7 @@ use rule_table::EntityKey;
 use std::alloc::{AllocError, Global};
 
 /// The key of a feed and an id, with an occurrence.
-pub fn key_of(
-    alloc: Global,
-    feed: u8,
-    id: &str,
-    occurrence: u32,
-) -> Result<EntityKey, AllocError> {
+pub fn key_of(alloc: Global, feed: u8, id: &str, occurrence: u32) -> Result<EntityKey, AllocError> {
     let mut owned = Text::new(alloc);
     owned.push(id)?;
     Ok(EntityKey {

@@ -1,5 +1,5 @@
 -- Rows in the order of an index are alike the rows of feeds.
-use Rattle.std.specs.Prelude.{◌≡◌, Bool, true, false, cond, ◌&&◌, List, [], ◌∷◌, filter, refl}
+use Rattle.std.specs.Prelude.{◌≡◌, true, false, cond, ◌&&◌, List, [], ◌∷◌, filter, refl}
 use Rattle.std.specs.declared.cmp.Ordering.{Ordering}
 use Rattle.std.specs.declared.cmp.Ordering.TheVariants.{Less, Equal, Greater}
 use Rattle.std.specs.Ordering.{ordering_then}
@@ -12,7 +12,7 @@ use Rattle.rule_table.specs.Kinds.{kind_cmp}
 use Rattle.rule_table.specs.Order.{key_cmp}
 use Rattle.rule_table.specs.Groups.{Each}
 use Rattle.rule_table.specs.Rises.{Rises}
-use Rattle.rule_table.specs.Pairs.{PairRow, is_of, has_row}
+use Rattle.rule_table.specs.Pairs.{PairRow, is_of}
 use Rattle.engine_laws.specs.Rows as feeds
 use Rattle.engine_laws.specs.HeldFeeds.{rows_held}
 use Rattle.engine_laws.proofs.Rows.{rows_rising}

@@ -1,7 +1,6 @@
 -- The rows of an entity, by kind and key.
-use Rattle.std.specs.Prelude.{◌≡◌, Bool, true, false, ◌&&◌, ◌||◌, List, [], ◌∷◌, ◌++◌, Option, Some, None, option_map, option_and_then, refl}
-use Rattle.std.specs.List.{list_any}
-use Rattle.std.proofs.Common.{sym, ap, ◌∙◌}
+use Rattle.std.specs.Prelude.{◌≡◌, Bool, true, false, ◌&&◌, ◌||◌, ◌++◌, Option, Some, None, option_map, option_and_then, refl}
+use Rattle.std.proofs.Common.{ap, ◌∙◌}
 use Rattle.feed_values.specs.Schema.{Value}
 use Rattle.feed_values.specs.Messages.{entity, trip_update, vehicle_position}
 use Rattle.rule_table.specs.declared.key.EntityKey.{EntityKey}

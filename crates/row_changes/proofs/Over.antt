@@ -10,13 +10,12 @@ use Rattle.feed_values.specs.declared.slot.Slot.TheVariants.{S29, S59}
 use Rattle.feed_values.specs.Schema.{Value}
 use Rattle.feed_values.specs.Messages.{entity}
 use Rattle.feed_values.specs.Cells.{entity_cell, number_cell}
-use Rattle.rule_table.specs.declared.key.EntityKey.{EntityKey}
 use Rattle.rule_table.specs.Order.{same_key}
 use Rattle.rule_table.specs.Bounds.{IsAbove, is_timestamp}
 use Rattle.rule_table.specs.GroupLaws.{or_left, or_right}
 use Rattle.rule_table.proofs.SameKeys.{key_is, key_self}
 use Rattle.history_rules.specs.Stamps.{Stamp, stamp_of, same_stamp, holds, is_above}
-use Rattle.row_changes.specs.Given.{update_time, vehicle_time, is_time, gives_time, is_given}
+use Rattle.row_changes.specs.Given.{update_time, vehicle_time, is_time, gives_time}
 use Rattle.row_changes.specs.Touched.{is_over, is_later, gives_later}
 use Rattle.row_changes.specs.Held.{OverKeysAre, NoneIsLater}
 use Rattle.row_changes.proofs.Lists.{same-truth}

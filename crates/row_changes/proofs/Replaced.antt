@@ -1,6 +1,6 @@
 -- Entities replaced one after the other.
-use Rattle.std.specs.Prelude.{◌≡◌, ℕ, ◌==◌, Bool, true, false, cond, ◌&&◌, ◌||◌, List, [], ◌∷◌, ◌++◌, Option, None, refl}
-use Rattle.std.specs.List.{list_any, flat_map}
+use Rattle.std.specs.Prelude.{◌≡◌, ◌==◌, Bool, true, false, cond, ◌&&◌, ◌||◌, List, [], ◌∷◌, ◌++◌, Option, None, refl}
+use Rattle.std.specs.List.{list_any}
 use Rattle.std.proofs.Common.{sym, ap, ◌∙◌}
 use Rattle.feed_values.specs.Schema.{Value}
 use Rattle.feed_values.specs.Messages.{entity}
@@ -10,9 +10,9 @@ use Rattle.rule_table.specs.Pairs.{PairRow, is_id, has_row, same_row}
 use Rattle.rule_table.proofs.SameKeys.{key_is}
 use Rattle.rule_history.specs.Changed.{changed_rows, differ}
 use Rattle.engine_laws.specs.HeldFeeds.{rows_held}
-use Rattle.history_rules.specs.Stamps.{Stamp, holds}
+use Rattle.history_rules.specs.Stamps.{holds}
 use Rattle.row_changes.specs.Given.{rows_under, is_given}
-use Rattle.row_changes.specs.Held.{Entities, entity_at, AreOfEntities, NothingIsHeld, is_done, replaced, changed_at, StartReplaces, UpdateReplaces, AllIsReplaced}
+use Rattle.row_changes.specs.Held.{Entities, entity_at, NothingIsHeld, is_done, replaced, changed_at, StartReplaces, UpdateReplaces, AllIsReplaced}
 use Rattle.row_changes.proofs.Lists.{any-append, any-flat, any-same, any-and, or-none}
 use Rattle.row_changes.proofs.Members.{any-members, has-changed, differ-same, key-symm}
 use Rattle.row_changes.specs.Updated.{exchanged}

@@ -1,7 +1,6 @@
 -- Timestamps as they are held in an entity.
-use Rattle.std.specs.Prelude.{ℕ, ◌==◌, Bool, false, ◌||◌, ◌&&◌, Option, Some, None}
+use Rattle.std.specs.Prelude.{ℕ, ◌==◌, Bool, false, ◌||◌, Option, Some, None}
 use Rattle.rule_table.specs.declared.key.EntityKey.{EntityKey}
-use Rattle.rule_table.specs.Order.{same_key}
 use Rattle.history_rules.specs.Stamps.{Stamp, stamp_of, same_stamp}
 use Rattle.row_changes.specs.declared.stamps.Times.{Times}
 

@@ -1,4 +1,4 @@
-use Rattle.std.proofs.Common.{◌&&◌, ◌||◌, ap, ◌∙◌, sym, option_map}
+use Rattle.std.proofs.Common.{◌||◌, ap, ◌∙◌, sym, option_map}
 use Rattle.rule_table.specs.Ids.{ids_value}
 use Rattle.rule_table.specs.Pairs.{row_with, same_row, has_row}
 use Rattle.pairing_rules.specs.Rows.{pair_row}

@@ -5,7 +5,7 @@ use Rattle.std.specs.List.{list_any}
 use Rattle.std.specs.Ordering.{eq_by_cmp}
 use Rattle.rule_table.specs.declared.kind.Kind.TheVariants.{TripUpdate, Vehicle}
 use Rattle.rule_table.specs.Order.{key_cmp, same_key}
-use Rattle.rule_table.specs.Pairs.{PairRow, is_of}
+use Rattle.rule_table.specs.Pairs.{is_of}
 use Rattle.rule_table.proofs.SameKeys.{same-key}
 use Rattle.rule_history.specs.Changed.{differ}
 use Rattle.row_changes.specs.Ids.{has_given}

@@ -1,9 +1,8 @@
-use Rattle.std.proofs.Common.{◌&&◌, ◌||◌, ℕ, List, ap, ◌∙◌, sym}
-use Rattle.std.specs.BTreeSet.{contains}
+use Rattle.std.proofs.Common.{◌&&◌, ℕ, List}
 use Rattle.std.specs.List.{list_any}
 use Rattle.std.specs.Map.Iter.{deref}
 use Rattle.std.proofs.lemmas.Map.Iter.{rest_more}
-use Rattle.rule_table.specs.Order.{key_cmp, same_key}
+use Rattle.rule_table.specs.Order.{same_key}
 use Rattle.rule_table.specs.Pairs.{is_id}
 use Rattle.pairing_rules.proofs.Members.{one-less}
 use Rattle.row_changes.proofs.touched.put_vehicles.Goals as goal

@@ -1,6 +1,5 @@
-use Rattle.std.proofs.Common.{ap, ◌∙◌}
+use Rattle.std.proofs.Common.{ap}
 use Rattle.rule_table.specs.Pairs.{is_id}
-use Rattle.row_changes.proofs.Lists.{or-none}
 use Rattle.row_changes.proofs.touched.vehicle_alone.Goals as goal
 
 pub returns : goal.returns

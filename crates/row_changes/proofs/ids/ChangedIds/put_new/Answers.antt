@@ -1,5 +1,3 @@
-use Rattle.std.proofs.Common.{option_map, option_copied}
-use Rattle.feed_values.specs.Views.{entity_value}
 use Rattle.row_changes.specs.Ids.{has_text, new_trip, new_vehicle}
 use Rattle.row_changes.proofs.Noted.{put-both}
 use Rattle.row_changes.proofs.ids.ChangedIds.put_new.Goals as goal
