@@ -84,3 +84,8 @@ any-turned {B = B} p (x ∷ xs) ys = ap (λ b. list_any (p x) ys || b) (any-turn
     joined : (f g : B → Bool) (zs : List B) → (list_any f zs || list_any g zs) ≡ list_any (λ z. f z || g z) zs
     joined f g [] = refl
     joined f g (z ∷ zs) = swap (f z) (list_any f zs) (g z) (list_any g zs) ∙ ap (λ b. (f z || g z) || b) (joined f g zs)
+
+-- ---- items gone through
+-- one item done, one less to go
+pub one-less : {A : Type 0} (p : A → Bool) (new old all : Bool) (x : A) (xs rest : List A) → new ≡ (old || p x) → xs ≡ x ∷ rest → (old || list_any p xs) ≡ all → (new || list_any p rest) ≡ all
+one-less p new old all x xs rest n s h = ap (λ b. b || list_any p rest) n ∙ sym (or-apart old (p x) (list_any p rest)) ∙ ap (λ ys. old || list_any p ys) (sym s) ∙ h

@@ -4,7 +4,7 @@ use Rattle.std.specs.Map.Iter.{deref}
 use Rattle.std.proofs.lemmas.Map.Iter.{rest_more}
 use Rattle.rule_table.specs.Order.{same_key}
 use Rattle.rule_table.specs.Pairs.{is_id}
-use Rattle.pairing_rules.proofs.Members.{one-less}
+use Rattle.row_changes.proofs.Lists.{one-less}
 use Rattle.row_changes.proofs.touched.put_vehicles.Goals as goal
 
 pub loop-vehicle-preserved : goal.loop-vehicle-preserved
