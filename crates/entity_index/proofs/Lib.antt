@@ -1,0 +1,12 @@
+pub mod AtKey
+pub mod Placed
+pub mod Coming
+pub mod Taking
+pub mod Finding
+pub mod Leaving
+pub mod Counted
+pub mod Tested
+pub mod There
+pub mod Setting
+pub mod Feeds
+pub mod Taken

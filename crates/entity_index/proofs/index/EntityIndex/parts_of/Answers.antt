@@ -1,0 +1,18 @@
+use Rattle.std.proofs.Common.{◌≡◌, ◌∙◌, List, Option, Some, None, ap, sym, option_copied}
+use Rattle.entity_index.specs.Held.{at_key}
+use Rattle.entity_index.specs.Rooms.{HeldRoom, room_of}
+use Rattle.entity_index.proofs.Feeds.{parts-under}
+use Rattle.entity_index.proofs.Setting.{found-at}
+use Rattle.entity_index.proofs.index.EntityIndex.parts_of.Goals as goal
+
+pub returns-in_err-seat : goal.returns-in_err-seat
+returns-in_err-seat c =
+    ap option_copied c.from_residual-in_err-seat.ensures
+    ∙ parts-under c.args.self.now c.self.inside.rooms.items c.args.key.now.feed c.in_ok-room.room.now c.self.view_is (c.in_ok-room.ensures ∙ ap (λ rs. room_of rs c.args.key.now.feed) c.deref.ensures.value) c.args.key.now None
+    (c.in_err-seat.ensures.value ∙ found-at c.room.inside.entries.entries c.args.key.now ∙ ap (λ (r : HeldRoom). at_key c.args.key.now r.seats) c.room.view_is)
+
+pub returns : goal.returns
+returns c =
+    ap (λ v. Some v) c.parts.ensures
+    ∙ parts-under c.args.self.now c.self.inside.rooms.items c.args.key.now.feed c.in_ok-room.room.now c.self.view_is (c.in_ok-room.ensures ∙ ap (λ rs. room_of rs c.args.key.now.feed) c.deref.ensures.value) c.args.key.now (Some c.in_ok-seat.seat.now)
+    (c.in_ok-seat.ensures.value ∙ found-at c.room.inside.entries.entries c.args.key.now ∙ ap (λ (r : HeldRoom). at_key c.args.key.now r.seats) c.room.view_is)

@@ -1,0 +1,14 @@
+-- What is handed out of a feed.
+use Rattle.std.specs.Prelude.{List, [], Option, Some, None}
+use denote.Ref.{Bor}
+use Rattle.rule_table.specs.declared.key.EntityKey.{EntityKey}
+use Rattle.entity_index.specs.Lists.{Lists}
+
+-- what is left of a feed, if it is held
+abbrev pub listed : {A : Type 0} → Option (List A) → List A
+listed None = []
+listed (Some xs) = xs
+
+-- a key and the four lists that are handed out with it
+abbrev pub keyed_parts : Bor EntityKey × Bor Lists → EntityKey × Lists
+keyed_parts x = (x.0.now, x.1.now)

@@ -1,0 +1,10 @@
+pub mod Lists
+pub mod Held
+pub mod Changes
+pub mod Laws
+pub mod Seats
+pub mod Rooms
+pub mod Inside
+pub mod Handed
+pub mod Met
+pub mod Put

@@ -1,0 +1,52 @@
+//! The keys of a snapshot's entities.
+ghost use Rattle.std.specs.Prelude.{◌≡◌, [], IfOk, map, bytes_eq};
+ghost use Rattle.std.specs.Cmp.Lexicographic.{pointwise};
+ghost use Rattle.feed_values.specs.Snapshot.{entity_payloads};
+ghost use Rattle.rule_history.specs.History.{id_of};
+ghost use Rattle.entity_index.specs.Changes.{keyed_in};
+
+use feed_stream::Kept;
+use feed_values::Text;
+use rule_table::{EntityKey, count_one};
+use std::alloc::{AllocError, Global};
+use std::collections::BTreeMap;
+
+/// The keys of a snapshot's entities, by place.
+///
+/// Where 2^32 entities have one id, it answers want of memory.
+pub(crate) fn keys_by_place(
+    alloc: Global,
+    feed: u8,
+    kept: &Kept,
+) -> Result<Vec<EntityKey>, AllocError>
+    ensures { IfOk result (λ keys. keys.items ≡ map (λ e. e.0) (keyed_in feed kept.now)) }
+{
+    let mut counts = BTreeMap::new(alloc);
+    let mut keys = Vec::new(alloc);
+    for place in 0..kept.len() {
+        let id = kept.entity_id(place);
+        let occurrence = count_one(alloc, &mut counts, id)?;
+        let id = Text::of(alloc, id)?;
+        keys.push(EntityKey {
+            feed,
+            id,
+            occurrence,
+        })?;
+    }
+    Ok(keys)
+}
+
+/// Whether two snapshots have entities of the same ids in the same order, which then have the same keys.
+pub(crate) fn have_same_ids(old: &Kept, new: &Kept) -> bool
+    ensures { result ≡ pointwise bytes_eq (map id_of (entity_payloads old.now)) (map id_of (entity_payloads new.now)) }
+{
+    if old.len() != new.len() {
+        return false;
+    }
+    for place in 0..new.len() {
+        if old.entity_id(place) != new.entity_id(place) {
+            return false;
+        }
+    }
+    true
+}

@@ -1,0 +1,219 @@
+//! A snapshot is taken in.
+ghost use Rattle.std.specs.Prelude.{◌≡◌, ◌<◌, ℕ, Bool, List, [], Some, None, IfOk, OnOk, map, not};
+ghost use Rattle.std.specs.BTreeMap.{IsOrdered};
+ghost use Rattle.feed_values.specs.Snapshot.{entity_payloads};
+ghost use Rattle.rule_table.specs.declared.key.EntityKey.{EntityKey as Key};
+ghost use Rattle.rule_table.specs.Order.{key_cmp};
+ghost use Rattle.entity_index.specs.Held.{nothing, at_key};
+ghost use Rattle.entity_index.specs.Changes.{AreIncoming, replaced, set_at};
+ghost use Rattle.entity_index.specs.Rooms.{in_room};
+ghost use Rattle.entity_index.specs.Seats.{AreSeated, occurrences_after, parts_in, placed_after, places_of};
+ghost use Rattle.entity_index.specs.Put.{other_keys, put_all, put_one, seat_all, seat_one, staying};
+
+use crate::incoming::Incoming;
+use crate::keys::{have_same_ids, keys_by_place};
+use crate::room::{Room, Seat};
+use feed_stream::Kept;
+use feed_values::Items;
+use rule_table::EntityKey;
+use standing_walks::Standing;
+use std::alloc::{AllocError, Global};
+use std::collections::BTreeMap;
+
+fn boxed<T: Drop>(alloc: Global, item: T) -> Result<Box<T>, AllocError>
+    ensures { IfOk result (λ b. b.value ≡ item) }
+{
+    Ok(Box::new(alloc, item)?)
+}
+
+/// Puts an entity that came in the place of the one under its key, or where none is there puts it in.
+fn put_one(
+    alloc: Global,
+    entries: &mut BTreeMap<EntityKey, Seat>,
+    phase: bool,
+    came: Incoming,
+) -> Result<(), AllocError>
+    ensures { OnOk result ((key : Key) → at_key key entries.new.entries ≡ put_one phase came (λ k. at_key k entries.old.entries) key) }
+{
+    let Incoming { key, entity, parts } = came;
+    let entity = boxed(alloc, entity)?;
+    match entries.get_mut(&key) {
+        Some(seat) => {
+            seat.renew(entity, parts);
+            Ok(())
+        }
+        None => {
+            entries.insert(key, Seat::new(phase, entity, parts))?;
+            Ok(())
+        }
+    }
+}
+
+fn put_all(
+    alloc: Global,
+    entries: &mut BTreeMap<EntityKey, Seat>,
+    phase: bool,
+    incoming: Items<Incoming>,
+) -> Result<(), AllocError>
+    ensures { OnOk result ((key : Key) → at_key key entries.new.entries ≡ put_all phase incoming (λ k. at_key k entries.old.entries) key) }
+{
+    for came in incoming.into_vec() {
+        put_one(alloc, entries, phase, came)?;
+    }
+    Ok(())
+}
+
+fn seat_one(entries: &mut BTreeMap<EntityKey, Seat>, key: &EntityKey, place: usize, phase: bool)
+    ensures { (k : Key) → at_key k entries.new.entries ≡ seat_one phase (key.now, place) (λ q. at_key q entries.old.entries) k }
+{
+    match entries.get_mut(key) {
+        Some(seat) => seat.seat_at(place, phase),
+        None => {}
+    }
+}
+
+/// Seats each entity of a snapshot at its place, in a phase, and tells how many with the same id stand before each.
+fn seat_all(
+    alloc: Global,
+    entries: &mut BTreeMap<EntityKey, Seat>,
+    feed: u8,
+    kept: &Kept,
+    phase: bool,
+) -> Result<Vec<u32>, AllocError>
+    ensures seated { OnOk result ((key : Key) → at_key key entries.new.entries ≡ seat_all phase (placed_after feed [] 0 (entity_payloads kept.now)) (λ k. at_key k entries.old.entries) key) }
+    ensures occurrences { IfOk result (λ counts. counts.items ≡ occurrences_after [] (entity_payloads kept.now)) }
+{
+    let keys = keys_by_place(alloc, feed, kept)?;
+    let mut occurrences = Vec::new(alloc);
+    for place in 0..kept.len() {
+        let key = &keys[place];
+        seat_one(entries, key, place, phase);
+        occurrences.push(key.occurrence)?;
+    }
+    Ok(occurrences)
+}
+
+/// The keys of what is of another phase.
+fn of_other_phase(
+    alloc: Global,
+    entries: &BTreeMap<EntityKey, Seat>,
+    phase: bool,
+) -> Result<Vec<EntityKey>, AllocError>
+    ensures keys { IfOk result (λ gone. gone.items ≡ other_keys phase entries.now.entries) }
+    ensures ordered { IsOrdered key_cmp entries.now }
+{
+    let mut gone = Vec::new(alloc);
+    for (key, seat) in entries {
+        if seat.phase() != phase {
+            gone.push(key.clone(alloc)?)?;
+        }
+    }
+    Ok(gone)
+}
+
+/// Lets what is of another phase go.
+fn let_go(
+    alloc: Global,
+    entries: &mut BTreeMap<EntityKey, Seat>,
+    phase: bool,
+) -> Result<(), AllocError>
+    ensures { OnOk result ((key : Key) → at_key key entries.new.entries ≡ staying phase (at_key key entries.old.entries)) }
+{
+    for key in of_other_phase(alloc, entries, phase)? {
+        entries.remove(&key);
+    }
+    Ok(())
+}
+
+/// What is held of a feed once its first snapshot was taken in.
+pub(crate) fn first_room(
+    alloc: Global,
+    feed: u8,
+    kept: Kept,
+    incoming: Items<Incoming>,
+) -> Result<Room, AllocError>
+    requires { AreIncoming feed None kept incoming }
+    ensures feed { IfOk result (λ room. room.feed ≡ feed) }
+    ensures held { IfOk result (λ room. in_room (Some room) ≡ replaced feed kept incoming nothing) }
+{
+    let mut entries = BTreeMap::new(alloc);
+    put_all(alloc, &mut entries, true, incoming)?;
+    let occurrences = seat_all(alloc, &mut entries, feed, &kept, true)?;
+    let _count = entries.len();
+    Ok(Room {
+        feed,
+        kept,
+        occurrences,
+        phase: true,
+        entries,
+    })
+}
+
+/// What is held of a feed once one more snapshot was taken in. Entities that stay are neither moved nor copied; where the ids are the same in the
+/// same order, those that didn't come in aren't looked at.
+pub(crate) fn next_room(
+    alloc: Global,
+    room: Room,
+    kept: Kept,
+    incoming: Items<Incoming>,
+) -> Result<Room, AllocError>
+    requires { AreIncoming room.feed (Some room.bytes) kept incoming }
+    ensures feed { IfOk result (λ next. next.feed ≡ room.feed) }
+    ensures held { IfOk result (λ next. in_room (Some next) ≡ replaced room.feed kept incoming (in_room (Some room))) }
+{
+    let Room {
+        feed,
+        kept: old,
+        occurrences,
+        phase,
+        mut entries,
+    } = room;
+    put_all(alloc, &mut entries, phase, incoming)?;
+    if have_same_ids(&old, &kept) {
+        let _count = entries.len();
+        return Ok(Room {
+            feed,
+            kept,
+            occurrences,
+            phase,
+            entries,
+        });
+    }
+    let occurrences = seat_all(alloc, &mut entries, feed, &kept, !phase)?;
+    let_go(alloc, &mut entries, !phase)?;
+    let _count = entries.len();
+    Ok(Room {
+        feed,
+        kept,
+        occurrences,
+        phase: !phase,
+        entries,
+    })
+}
+
+fn set_under(
+    entries: &mut BTreeMap<EntityKey, Seat>,
+    key: &EntityKey,
+    part: u8,
+    list: Items<Standing>,
+)
+    requires { part < 4 }
+    ensures parts { parts_in entries.new.entries ≡ set_at key.now part list (parts_in entries.old.entries) }
+    ensures places { places_of entries.new.entries ≡ places_of entries.old.entries }
+    ensures seats { (ps : List (List ℕ)) (phase : Bool) → AreSeated ps phase entries.old.entries → AreSeated ps phase entries.new.entries }
+{
+    match entries.get_mut(key) {
+        Some(seat) => seat.set(part, list),
+        None => {}
+    }
+}
+
+/// Puts a list in the place of the one of a number under a key; where nothing is under it, all stays.
+pub(crate) fn set_in(room: &mut Room, key: &EntityKey, part: u8, list: Items<Standing>)
+    requires { part < 4 }
+    ensures feed { room.new.feed ≡ room.old.feed }
+    ensures bytes { room.new.bytes ≡ room.old.bytes }
+    ensures parts { parts_in room.new.seats ≡ set_at key.now part list (parts_in room.old.seats) }
+{
+    set_under(&mut room.entries, key, part, list);
+}
