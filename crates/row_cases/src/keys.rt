@@ -15,6 +15,11 @@ pub fn key_of(alloc: Global, feed: u8, id: &str, occurrence: u32) -> Result<Enti
     })
 }
 
+/// A key as `FEED/ID/OCCURRENCE`.
+pub fn key_text(alloc: Global, key: &EntityKey) -> Result<String, AllocError> {
+    format!(in alloc; "{}/{}/{}", key.feed, key.id.as_str(), key.occurrence)
+}
+
 /// Keys as `FEED/ID/OCCURRENCE` with blanks between them, or `none`.
 pub fn keys_text(alloc: Global, keys: &Items<EntityKey>) -> Result<String, AllocError> {
     let mut text = String::new(alloc);
@@ -22,7 +27,7 @@ pub fn keys_text(alloc: Global, keys: &Items<EntityKey>) -> Result<String, Alloc
         if !text.is_empty() {
             text.push_str(" ")?;
         }
-        let one = format!(in alloc; "{}/{}/{}", key.feed, key.id.as_str(), key.occurrence)?;
+        let one = key_text(alloc, key)?;
         text.push_str(one.as_str())?;
     }
     if text.is_empty() {

@@ -1,16 +1,21 @@
-//! Asks of the rows and timestamps that are held from snapshot to snapshot, and of the keys that one touches, whose cases are the texts in
-//! data/ that the arguments name.
+//! Asks of the rows and timestamps that are held from snapshot to snapshot, and of the keys that one touches, and of the entities that are held,
+//! whose cases are the texts in data/ that the arguments name.
 //!
 //! - `entities`: entities by their bytes
 //! - `keys`: keys of entities in text
-//! - `held`: the asks
+//! - `held`: the asks of rows and timestamps
+//! - `coming`: what comes into an index of entities
+//! - `indexes`: the asks of such an index
 #![tactic(auto)]
 
+mod coming;
 mod entities;
 mod held;
+mod indexes;
 mod keys;
 
 use crate::held::HeldAsks;
+use crate::indexes::IndexAsks;
 use cases::{Asked, judge, say, word_list};
 use std::alloc::{AllocError, Global};
 use std::{env, fs, io};
@@ -20,16 +25,18 @@ use std::{env, fs, io};
 struct RowAsks {
     alloc: Global,
     held: HeldAsks,
+    index: IndexAsks,
 }
 
 impl Asked for RowAsks {
     fn begin(&mut self) {
         self.held.begin();
+        self.index.begin();
     }
 
     fn answer(&mut self, ask: &str, given: &[u8], answer: &mut Vec<u8>) -> Result<(), AllocError> {
         let words = word_list(self.alloc, ask)?;
-        if self.held.answer(&words, given, answer)? {
+        if self.held.answer(&words, given, answer)? || self.index.answer(&words, given, answer)? {
             return Ok(());
         }
         say(answer, "no such ask")
@@ -40,6 +47,7 @@ fn judged(alloc: Global, name: &str, text: &str) -> Result<String, AllocError> {
     let mut asks = RowAsks {
         alloc,
         held: HeldAsks::new(alloc),
+        index: IndexAsks::new(alloc),
     };
     judge(alloc, name, text, &mut asks)
 }
