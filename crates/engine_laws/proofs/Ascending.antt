@@ -196,7 +196,7 @@ row_rule rule answer key e =
 
 -- ---- rules one after the other
 -- the rules rise from a number on, and so do the slots of each
-abbrev are_sorted : (RuleId → List Slot) → ℕ → List RuleId → Bool
+abbrev pub are_sorted : (RuleId → List Slot) → ℕ → List RuleId → Bool
 are_sorted slots n [] = true
 are_sorted slots n (r ∷ rules) = nat_le n (rule_number r) && (rise 0 (slots r) && are_sorted slots (rule_number r + 1) rules)
 
@@ -257,6 +257,10 @@ all_by answer key e n (r ∷ rules) h =
     rule_then (IsUnder key) (one_key key) n r (found_by r answer key e) (found_all rules answer key e) (leb-true n (rule_number r) p.0)
     (each_weaken (IsIn r key (λ p. 0 ≤ slot_number p.slot)) (λ x. (x.rule ≡ r) × IsUnder key x.place) (λ x m. (m.rule_is, subst (IsUnder key) (sym m.place_is) refl)) (found_by r answer key e) one.0)
     one.1 rest.0 rest.1
+
+-- so the findings of rules that rise are in order
+pub found_ascend : (answer : Ask → Option CellValue) (key : EntityKey) (e : Value entity) (rules : List RuleId) → are_sorted slots_of 0 rules ≡ true → Rises found_cmp (found_all rules answer key e)
+found_ascend answer key e rules h = (all_by answer key e 0 rules h).1
 
 -- ---- on a header
 record IsOnSlot (rule : RuleId) (f n : ℕ) (x : Found) : Type 0 where

@@ -71,7 +71,7 @@ module _ (answer : Ask → Option CellValue) (k : EntityKey) (e : Value entity) 
       its_rule : (f : Found) → has_rule (q ∷ []) f.rule ≡ true → of_rule r f ≡ same_rule q r
       its_rule f h = ap (λ n. n == rule_number r) (sym (one (rule_number q) (rule_number f.rule) h))
 
-  picked : (r : RuleId) (rules : List RuleId) → are_apart rules ≡ true → filter (of_rule r) (found_all rules answer k e) ≡ cond (has_rule rules r) (found_by r answer k e) []
+  pub picked : (r : RuleId) (rules : List RuleId) → are_apart rules ≡ true → filter (of_rule r) (found_all rules answer k e) ≡ cond (has_rule rules r) (found_by r answer k e) []
   picked r [] a = refl
   picked r (q ∷ rules) a =
       filter-append (of_rule r) (found_by q answer k e) (found_all rules answer k e)

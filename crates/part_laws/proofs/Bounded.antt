@@ -229,7 +229,7 @@ value_under P (x ∷ es) k p h q =
       | false ↦ λ v. value_under P es k p h.1 v
     ] q
 
-numbers_held : (s : Snapshot) → IsTaken s → (k : EntityKey) (p : List ℕ) → payload_under k (entities_in s.feed s.bytes) ≡ Some p → AreNumbersHeld (timestamp_of (header_of s.bytes)) s.moment (entity_of p)
+pub numbers_held : (s : Snapshot) → IsTaken s → (k : EntityKey) (p : List ℕ) → payload_under k (entities_in s.feed s.bytes) ≡ Some p → AreNumbersHeld (timestamp_of (header_of s.bytes)) s.moment (entity_of p)
 numbers_held s taken k p under slot is = at slot is
   where
     whole : IsMessage entity p

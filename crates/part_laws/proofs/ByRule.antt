@@ -1,17 +1,19 @@
 -- Two lists in the order of rules, merged, are both together in that order.
-use Rattle.std.specs.Prelude.{◌≡◌, ◌⊎◌, ℕ, ◌+◌, ◌≤◌, nat_le, ◌&&◌, Bool, true, false, cond, List, [], ◌∷◌, ◌++◌, map, filter, refl}
+use Rattle.std.specs.Prelude.{◌≡◌, ◌⊎◌, ℕ, ◌+◌, ◌≤◌, ◌<◌, ◌==◌, ◌||◌, nat_le, ◌&&◌, Bool, true, false, cond, List, [], ◌∷◌, ◌++◌, map, filter, refl}
 use Rattle.std.proofs.Common.{inl, inr, sym, ap, ◌∙◌, arith, append-nil}
 use Rattle.std.proofs.lemmas.List.{map-append}
 use Rattle.std.proofs.lemmas.List.Elements.{filter-append}
 use Rattle.std.proofs.lemmas.Bool.{and_parts}
 use Rattle.std.proofs.lemmas.Bool.Decides.{nat_tests}
-use borrow.Author.Tests.{eqb-true, leb-true}
+use borrow.Author.Tests.{eqb-true, eqb-false, eq-eqb, ne_eqb, leb-true}
 use Rattle.rule_table.specs.declared.rule.RuleId.{RuleId}
 use Rattle.rule_table.specs.Rules.{rule_number, same_rule}
 use Rattle.rule_table.specs.Table.{all_rules}
-use Rattle.rule_table.specs.Groups.{Each}
+use Rattle.rule_table.specs.EachRule.{each_rule}
+use Rattle.rule_table.specs.Groups.{Each, has_rule, has_number}
 use Rattle.rule_table.specs.GroupLaws.{each_append, each_weaken}
 use Rattle.rule_history.specs.Standing.{Standing}
+use Rattle.engine_laws.proofs.Lists.{both, filter-none, filter-all}
 use Rattle.standing_walks.specs.Merged.{number, with_first, merged}
 use Rattle.rule_table.specs.ByRule.{each_by_rule}
 
@@ -130,3 +132,52 @@ mapped-ruled f one two h (r ∷ rules) xs =
     ap (λ ys. ys ++ each_by_rule two rules (map f xs)) (filter-mapped f (λ x. same_rule (one x) r) (λ y. same_rule (two y) r) (λ x. ap (λ q. same_rule q r) (h x)) xs)
     ∙ ap (λ ys. map f (filter (λ x. same_rule (one x) r) xs) ++ ys) (mapped-ruled f one two h rules xs)
     ∙ sym (map-append f (filter (λ x. same_rule (one x) r) xs) (each_by_rule one rules xs))
+
+-- ---- what is rule by rule is so once more
+module _ (m : ℕ) where
+  far : (r : RuleId) → (m == rule_number r) ≡ false → (xs : List Standing) → Each (λ x. number x ≡ m) xs → filter (of_rule r) xs ≡ []
+  far r n xs h = filter-none (of_rule r) xs (each_weaken (λ x. number x ≡ m) (λ x. of_rule r x ≡ false) (λ x e. ap (λ k. k == rule_number r) e ∙ n) xs h)
+
+  -- rules above a number have nothing of it
+  none_ruled : (n : ℕ) (rules : List RuleId) → rise n rules ≡ true → m < n → (xs : List Standing) → Each (λ x. number x ≡ m) xs → ruled rules xs ≡ []
+  none_ruled n [] h l xs all = refl
+  none_ruled n (r ∷ rules) h l xs all =
+      let hs = and_parts (nat_le n (rule_number r)) (rise (rule_number r + 1) rules) h in
+      let first : n ≤ rule_number r = leb-true n (rule_number r) hs.0 in
+      ap (λ ys. ys ++ ruled rules xs) (far r (ne_eqb m (rule_number r) (apart (rule_number r) first)) xs all) ∙ none_ruled (rule_number r + 1) rules hs.1 (under (rule_number r) first) xs all
+    where
+      apart : (x : ℕ) → n ≤ x → m ≡ x → ⊥
+      apart x a b = omega (arith, l)
+
+      under : (x : ℕ) → n ≤ x → m < x + 1
+      under x a = omega (arith, l)
+
+  -- and those of one rule stay as they are
+  one_ruled : (n : ℕ) (rules : List RuleId) → rise n rules ≡ true → has_number rules m ≡ true → (xs : List Standing) → Each (λ x. number x ≡ m) xs → ruled rules xs ≡ xs
+  one_ruled n [] h has xs all = cc
+  one_ruled n (r ∷ rules) h has xs all =
+      elim (rule_number r == m) as (λ b. (rule_number r == m) ≡ b → (b || has_number rules m) ≡ true → ruled (r ∷ rules) xs ≡ xs) [
+        | true ↦ λ e _.
+            let same : rule_number r ≡ m = eqb-true (rule_number r) m e in
+            ap (λ ys. ys ++ ruled rules xs) (filter-all (of_rule r) xs (each_weaken (λ x. number x ≡ m) (λ x. of_rule r x ≡ true) (λ x q. eq-eqb (number x) (rule_number r) (q ∙ sym same)) xs all))
+            ∙ ap (λ ys. xs ++ ys) (none_ruled (rule_number r + 1) rules hs.1 (over (rule_number r) same) xs all) ∙ append-nil xs
+        | false ↦ λ e k.
+            ap (λ ys. ys ++ ruled rules xs) (far r (ne_eqb m (rule_number r) (λ q. eqb-false (rule_number r) m e (sym q))) xs all) ∙ one_ruled (rule_number r + 1) rules hs.1 k xs all
+      ] refl has
+    where
+      hs : (nat_le n (rule_number r) ≡ true) × (rise (rule_number r + 1) rules ≡ true)
+      hs = and_parts (nat_le n (rule_number r)) (rise (rule_number r + 1) rules) h
+
+      over : (x : ℕ) → x ≡ m → m < x + 1
+      over x q = omega (arith, q)
+
+known : (r : RuleId) → has_rule all_rules r ≡ true
+known = each_rule (has_rule all_rules) refl
+
+pub twice_ruled : (xs : List Standing) → ruled all_rules (ruled all_rules xs) ≡ ruled all_rules xs
+twice_ruled xs = go all_rules
+  where
+    go : (rules : List RuleId) → ruled rules (ruled all_rules xs) ≡ ruled rules xs
+    go [] = refl
+    go (r ∷ rules) =
+        both (filter-ruled (of_rule r) all_rules xs ∙ one_ruled (rule_number r) 0 all_rules all_rise (known r) (filter (of_rule r) xs) (filtered r xs)) (go rules)

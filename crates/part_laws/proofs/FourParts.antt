@@ -20,8 +20,8 @@ use Rattle.engine_laws.proofs.Since.{renewed-same, renewed-append}
 use Rattle.engine_laws.proofs.Spots.{is_false, having, first_since, is_some_one, since-having, any-having, was-having}
 use Rattle.standing_walks.specs.Merged.{merged, merged_four}
 use Rattle.rule_table.specs.ByRule.{each_by_rule}
-use Rattle.part_laws.specs.FourParts.{AreFourGroups, AreFoundOf, StandOf, AreParts, found_in_order, standings_in_order, spots_in_order, MergedIsByRule, MergedRenews, MergedOpens, MergedCloses}
-use Rattle.part_laws.proofs.ByRule.{of_rule, Apart, all_rise, merged-ruled, filter-ruled, mapped-ruled}
+use Rattle.part_laws.specs.FourParts.{AreFourGroups, AreFoundOf, StandOf, AreParts, IsInRuleOrder, found_in_order, standings_in_order, spots_in_order, MergedIsByRule, MergedRenews, MergedOpens, MergedCloses}
+use Rattle.part_laws.proofs.ByRule.{of_rule, Apart, all_rise, merged-ruled, filter-ruled, mapped-ruled, twice_ruled}
 use Rattle.part_laws.proofs.AtSpot.{left_alone, right_alone, neither}
 
 -- ---- rules of one group are of no other
@@ -143,19 +143,19 @@ same_numbers part whole rules same n fs all =
     (λ f h. since-having part f ∙ sym (ap first_since (same f h)) ∙ sym (since-having whole f)) fs all)
 
 -- numbering keeps the order of rules
-ordered-renewed : (whole : List Standing) (n : ℕ) (fs : List Found) → standings_in_order (renewed whole n fs) ≡ renewed whole n (found_in_order fs)
+pub ordered-renewed : (whole : List Standing) (n : ℕ) (fs : List Found) → standings_in_order (renewed whole n fs) ≡ renewed whole n (found_in_order fs)
 ordered-renewed whole n fs = mapped-ruled (numbered whole n) (λ f. f.rule) (λ x. x.finding.rule) (λ f. refl) all_rules fs
 
-each_filtered : {A : Type 0} (P : A → Type 0) (test : A → Bool) (xs : List A) → Each P xs → Each P (filter test xs)
+pub each_filtered : {A : Type 0} (P : A → Type 0) (test : A → Bool) (xs : List A) → Each P xs → Each P (filter test xs)
 each_filtered P test [] h = tt
 each_filtered P test (x ∷ xs) h =
     elim (test x) as (λ b. Each P (cond b (x ∷ filter test xs) (filter test xs))) [ true ↦ (h.0, each_filtered P test xs h.1) | false ↦ each_filtered P test xs h.1 ]
 
-renewed_of : (rules : List RuleId) (base : List Standing) (n : ℕ) (fs : List Found) → AreFoundOf rules fs → StandOf rules (renewed base n fs)
+pub renewed_of : (rules : List RuleId) (base : List Standing) (n : ℕ) (fs : List Found) → AreFoundOf rules fs → StandOf rules (renewed base n fs)
 renewed_of rules base n [] h = tt
 renewed_of rules base n (f ∷ fs) h = (h.0, renewed_of rules base n fs h.1)
 
-found_ruled : (rules all : List RuleId) (fs : List Found) → AreFoundOf rules fs → AreFoundOf rules (each_by_rule (λ f. f.rule) all fs)
+pub found_ruled : (rules all : List RuleId) (fs : List Found) → AreFoundOf rules fs → AreFoundOf rules (each_by_rule (λ f. f.rule) all fs)
 found_ruled rules [] fs h = tt
 found_ruled rules (r ∷ all) fs h =
     each_both (filter (λ f. same_rule f.rule r) fs) (each_by_rule (λ f. f.rule) all fs) (each_filtered (λ f. has_rule rules f.rule ≡ true) (λ f. same_rule f.rule r) fs h) (found_ruled rules all fs h)
@@ -183,6 +183,10 @@ module _ (p q r s : List RuleId) (a b c d : List Standing) (are : AreParts p q r
       (record { groups = are.groups; first = renewed_of p all n f hf; second = renewed_of q all n g hg; third = renewed_of r all n h hh; fourth = renewed_of s all n i hi })
       ∙ ap standings_in_order (sym (renewed-append all n (f ++ g) (h ++ i) ∙ both (renewed-append all n f g) (renewed-append all n h i)))
       ∙ ordered-renewed all n ((f ++ g) ++ (h ++ i))
+
+-- and findings in the order of rules, numbered, are so
+pub in_order_renewed : (base : List Standing) (n : ℕ) (fs : List Found) → IsInRuleOrder (renewed base n (found_in_order fs))
+in_order_renewed base n fs = ap standings_in_order (sym (ordered-renewed base n fs)) ∙ twice_ruled (renewed base n fs) ∙ ordered-renewed base n fs
 
 pub merged_renews : MergedRenews
 merged_renews p q r s a b c d are n f g h i hf hg hh hi = renews p q r s a b c d are n f g h i hf hg hh hi

@@ -16,7 +16,6 @@ use Rattle.engine_laws.specs.Standings.{findings_of}
 use Rattle.engine_laws.proofs.Lists.{every}
 use Rattle.engine_laws.proofs.Sorted.{keys_total, cmp_equal, less_other, apart_rising}
 use Rattle.engine_laws.proofs.Spots.{is_false, key_is, key_self}
-use Rattle.engine_laws.proofs.Unchanged.{opened-same, closed-same}
 use Rattle.part_laws.specs.Touched.{is_among, TouchedOpen, TouchedClose}
 
 -- ---- keys of a list
@@ -83,10 +82,10 @@ module _ {B : Type 0} (F : EntityKey → List B) where
   sparse es ts re rt h k = walk es ts re rt (every (Covers es) h ts) (every (Covers ts) k es)
 
 -- ---- lists under keys
-abbrev keys_of : KeyedLists → List EntityKey
+abbrev pub keys_of : KeyedLists → List EntityKey
 keys_of lists = map (λ c. c.0) lists
 
-keys_rise : (lists : KeyedLists) → Rising lists → Rises key_cmp (keys_of lists)
+pub keys_rise : (lists : KeyedLists) → Rising lists → Rises key_cmp (keys_of lists)
 keys_rise [] h = tt
 keys_rise (c ∷ cs) h = (over cs h.0, keys_rise cs h.1)
   where
@@ -95,7 +94,7 @@ keys_rise (c ∷ cs) h = (over cs h.0, keys_rise cs h.1)
     over (d ∷ ds) k = (k.0, over ds k.1)
 
 -- nothing is under a key that isn't one of theirs
-none_under : (lists : KeyedLists) (k : EntityKey) → is_among (keys_of lists) k ≡ false → list_under k lists ≡ []
+pub none_under : (lists : KeyedLists) (k : EntityKey) → is_among (keys_of lists) k ≡ false → list_under k lists ≡ []
 none_under [] k h = refl
 none_under (c ∷ cs) k h =
     elim (same_key c.0 k) as (λ b. (b || is_among (keys_of cs) k) ≡ false → unwrap_or (option_map (λ c. c.1) (cond b (Some c) (find (λ c. same_key c.0 k) cs))) [] ≡ []) [
@@ -124,23 +123,14 @@ by_keys {B} G lists apart = go lists (under lists apart)
         both : {xs ys us vs : List B} → xs ≡ ys → us ≡ vs → xs ++ us ≡ ys ++ vs
         both p q = cc
 
-module _ (old new : KeyedLists) (ro : Rising old) (rn : Rising new) (touched : List EntityKey) (rt : Rises key_cmp touched) (same : (k : EntityKey) → is_among touched k ≡ false → list_under k old ≡ list_under k new) where
-  opens : flat_map (λ c. opened (findings_of (list_under c.0 old)) c.1) new ≡ flat_map (λ k. opened (findings_of (list_under k old)) (list_under k new)) touched
-  opens =
-      by_keys (λ k xs. opened (findings_of (list_under k old)) xs) new (apart_rising new rn)
-      ∙ sparse (λ k. opened (findings_of (list_under k old)) (list_under k new)) (keys_of new) touched (keys_rise new rn) rt
-      (λ k h. ap (opened (findings_of (list_under k old))) (none_under new k h))
-      (λ k h. ap (λ xs. opened (findings_of xs) (list_under k new)) (same k h) ∙ opened-same (list_under k new))
-
-  closes : flat_map (λ c. closed (findings_of c.1) (findings_of (list_under c.0 new))) old ≡ flat_map (λ k. closed (findings_of (list_under k old)) (findings_of (list_under k new))) touched
-  closes =
-      by_keys (λ k xs. closed (findings_of xs) (findings_of (list_under k new))) old (apart_rising old ro)
-      ∙ sparse (λ k. closed (findings_of (list_under k old)) (findings_of (list_under k new))) (keys_of old) touched (keys_rise old ro) rt
-      (λ k h. ap (λ xs. closed (findings_of xs) (findings_of (list_under k new))) (none_under old k h))
-      (λ k h. ap (λ xs. closed (findings_of xs) (findings_of (list_under k new))) (same k h) ∙ closed-same (findings_of (list_under k new)))
-
 pub touched_open : TouchedOpen
-touched_open old new ro rn touched rt same = opens old new ro rn touched rt same
+touched_open old new rn touched rt none =
+    by_keys (λ k xs. opened (findings_of (list_under k old)) xs) new (apart_rising new rn)
+    ∙ sparse (λ k. opened (findings_of (list_under k old)) (list_under k new)) (keys_of new) touched (keys_rise new rn) rt
+    (λ k h. ap (opened (findings_of (list_under k old))) (none_under new k h)) none
 
 pub touched_close : TouchedClose
-touched_close old new ro rn touched rt same = closes old new ro rn touched rt same
+touched_close old new ro touched rt none =
+    by_keys (λ k xs. closed (findings_of xs) (findings_of (list_under k new))) old (apart_rising old ro)
+    ∙ sparse (λ k. closed (findings_of (list_under k old)) (findings_of (list_under k new))) (keys_of old) touched (keys_rise old ro) rt
+    (λ k h. ap (λ xs. closed (findings_of xs) (findings_of (list_under k new))) (none_under old k h)) none
