@@ -8,6 +8,9 @@ greatest resident size less that of a run with no row, by row, with the ids in i
 Then 2,000, 4,000 and 8,000 vehicle positions that share a trip come in one snapshot, each with a vehicle of its own, and the keys are
 found that they touch, less what decoding them takes. And rows whose ids never come again pass through an index that holds 1,000 at a time,
 from ten to ten thousand times as many in all: memory is to stay. It needs nothing but Python.
+
+`indexes.py PROGRAM held` counts instructions (by callgrind, of valgrind): what it costs for each entity that a snapshot comes which is the one that is
+held, with its entities in the same order and the other way round, beyond splitting it.
 """
 import os, subprocess, sys, time
 
@@ -23,7 +26,22 @@ def run(work, rows, trips):
     return usage.ru_utime + usage.ru_stime, usage.ru_maxrss * 1024
 
 
+def instructions(work, rows, times):
+    out = subprocess.run(["valgrind", "--tool=callgrind", "--callgrind-out-file=/dev/null", PROGRAM, work, str(rows), str(times)], capture_output=True, text=True)
+    return int([line for line in out.stderr.splitlines() if "Collected" in line][0].split(":")[1])
+
+
+def held():
+    rows = 10000
+    print("%9s %9s %14s" % ("entities", "order", "instructions"))
+    splitting = instructions("split", rows, 3) - instructions("split", rows, 2)
+    for work, order in (("again", "same"), ("turned", "other")):
+        print("%9d %9s %14d" % (rows, order, (instructions(work, rows, 3) - instructions(work, rows, 2) - splitting) / rows))
+
+
 def main():
+    if sys.argv[2:] == ["held"]:
+        return held()
     works = sys.argv[2:] or ["add", "take", "ask", "name", "stamp", "unstamp"]
     empty = run("add", 0, 1)[1]
     print("%9s %9s %9s %9s %9s" % ("rows", "trips", "work", "seconds", "bytes/row"))

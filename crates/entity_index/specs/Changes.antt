@@ -71,10 +71,18 @@ replaced f bytes came old = record {
 }
 
 -- ---- what is set
+-- the four lists under a key exchanged for what a function makes of them
+abbrev pub changed_under : EntityKey → (Lists → Lists) → KeyedParts → KeyedParts
+changed_under key change [] = []
+changed_under key change (c ∷ cs) = if same_key c.0 key then (c.0, change c.1) ∷ cs else c ∷ changed_under key change cs
+
 -- another list in the place of one of the four under a key
 abbrev pub set_at : EntityKey → ℕ → List Standing → KeyedParts → KeyedParts
-set_at key part xs [] = []
-set_at key part xs (c ∷ cs) = if same_key c.0 key then (c.0, with_list c.1 part xs) ∷ cs else c ∷ set_at key part xs cs
+set_at key part xs parts = changed_under key (λ l. with_list l part xs) parts
 
 abbrev pub with_part : EntityKey → ℕ → List Standing → HeldEntities → HeldEntities
 with_part key part xs held = record held { parts = set_at key part xs held.parts }
+
+-- empty lists in the place of all four
+abbrev pub emptied : EntityKey → HeldEntities → HeldEntities
+emptied key held = record held { parts = changed_under key (λ l. no_lists) held.parts }

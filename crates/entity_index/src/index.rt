@@ -1,18 +1,18 @@
 //! The last snapshots of all feeds.
-ghost use Rattle.std.specs.Prelude.{◌≡◌, ◌<◌, ◌==◌, ℕ, false, Some, length, map, IfOk, IfSome, OnOk, option_map, option_copied};
+ghost use Rattle.std.specs.Prelude.{◌≡◌, ◌<◌, ◌==◌, ℕ, false, Some, length, map, IfOk, IfSome, OnOk, option_map, option_copied, unwrap_or};
 ghost use Rattle.feed_values.specs.Snapshot.{entity_of};
 ghost use Rattle.feed_values.specs.Views.{entity_value};
 ghost use Rattle.rule_history.specs.Answered.{payload_under};
-ghost use Rattle.entity_index.specs.Lists.{list_of};
+ghost use Rattle.entity_index.specs.Lists.{list_of, no_lists};
 ghost use Rattle.entity_index.specs.Held.{entities_before, held_at, nothing, parts_at};
-ghost use Rattle.entity_index.specs.Changes.{AreIncoming, IsChanges, replaced, with_part};
+ghost use Rattle.entity_index.specs.Changes.{AreIncoming, IsChanges, emptied, replaced, with_part};
 ghost use Rattle.entity_index.specs.Rooms.{AreAtPlaces, in_room, room_of};
 
 use crate::comparing::{compared, first_changes};
 use crate::incoming::{Changes, Incoming};
 use crate::iters::{KeysIter, PartsIter};
 use crate::parts::Parts;
-use crate::renewing::{first_room, next_room, set_in};
+use crate::renewing::{first_room, next_room, set_in, take_in};
 use crate::room::Room;
 use feed_stream::Kept;
 use feed_values::{Entity, Items};
@@ -105,6 +105,30 @@ fn put_in_room(
     Ok(())
 }
 
+fn take_if_held(room: &mut Option<Room>, alloc: Global, key: &EntityKey) -> Parts
+    ensures taken { result ≡ unwrap_or (parts_at key.now (in_room room.old).parts) no_lists }
+    ensures held { in_room room.new ≡ emptied key.now (in_room room.old) }
+    ensures feed { (f : ℕ) → IfSome room.old (λ room. room.feed ≡ f) → IfSome room.new (λ room. room.feed ≡ f) }
+{
+    match room {
+        Some(room) => take_in(room, alloc, key),
+        None => Parts::new(alloc),
+    }
+}
+
+fn take_in_room(rooms: &mut Vec<Option<Room>>, alloc: Global, key: &EntityKey) -> Parts
+    ensures taken { result ≡ unwrap_or (parts_at key.now (in_room (room_of rooms.old.items key.now.feed)).parts) no_lists }
+    ensures places { AreAtPlaces rooms.old.items → AreAtPlaces rooms.new.items }
+    ensures here { in_room (room_of rooms.new.items key.now.feed) ≡ emptied key.now (in_room (room_of rooms.old.items key.now.feed)) }
+    ensures others { (g : ℕ) → (key.now.feed == g) ≡ false → room_of rooms.new.items g ≡ room_of rooms.old.items g }
+{
+    let place = key.feed as usize;
+    if place >= rooms.len() {
+        return Parts::new(alloc);
+    }
+    take_if_held(&mut rooms[place], alloc, key)
+}
+
 fn set_if_held(room: &mut Option<Room>, key: &EntityKey, part: u8, list: Items<Standing>)
     requires { part < 4 }
     ensures held { in_room room.new ≡ with_part key.now part list (in_room room.old) }
@@ -167,6 +191,15 @@ impl EntityIndex {
         let EntityIndex { alloc, mut rooms } = self;
         put_in_room(alloc, &mut rooms, feed, kept, incoming)?;
         Ok(EntityIndex { alloc, rooms })
+    }
+
+    /// Gives up the four lists under a key, where empty ones are then; where nothing is held under it, all stays.
+    pub fn take_parts(&mut self, key: &EntityKey) -> Parts
+        ensures taken { result ≡ unwrap_or (parts_at key.now (held_at self.old key.now.feed).parts) no_lists }
+        ensures here { held_at self.new key.now.feed ≡ emptied key.now (held_at self.old key.now.feed) }
+        ensures others { (g : ℕ) → (key.now.feed == g) ≡ false → held_at self.new g ≡ held_at self.old g }
+    {
+        take_in_room(&mut self.rooms, self.alloc, key)
     }
 
     /// Puts a list in the place of the one of a number under a key. Where nothing is held under the key, all stays.

@@ -1,17 +1,19 @@
 //! A snapshot is taken in.
-ghost use Rattle.std.specs.Prelude.{◌≡◌, ◌<◌, ℕ, Bool, List, [], Some, None, IfOk, OnOk, map, not};
+ghost use Rattle.std.specs.Prelude.{◌≡◌, ◌<◌, ℕ, Bool, List, [], Some, None, IfOk, OnOk, map, not, unwrap_or};
 ghost use Rattle.std.specs.BTreeMap.{IsOrdered};
 ghost use Rattle.feed_values.specs.Snapshot.{entity_payloads};
 ghost use Rattle.rule_table.specs.declared.key.EntityKey.{EntityKey as Key};
 ghost use Rattle.rule_table.specs.Order.{key_cmp};
-ghost use Rattle.entity_index.specs.Held.{nothing, at_key};
-ghost use Rattle.entity_index.specs.Changes.{AreIncoming, replaced, set_at};
+ghost use Rattle.entity_index.specs.Held.{nothing, at_key, parts_at};
+ghost use Rattle.entity_index.specs.Lists.{no_lists};
+ghost use Rattle.entity_index.specs.Changes.{AreIncoming, changed_under, replaced, set_at};
 ghost use Rattle.entity_index.specs.Rooms.{in_room};
 ghost use Rattle.entity_index.specs.Seats.{AreSeated, occurrences_after, parts_in, placed_after, places_of};
 ghost use Rattle.entity_index.specs.Put.{other_keys, put_all, put_one, seat_all, seat_one, staying};
 
 use crate::incoming::Incoming;
 use crate::keys::{have_same_ids, keys_by_place};
+use crate::parts::Parts;
 use crate::room::{Room, Seat};
 use feed_stream::Kept;
 use feed_values::Items;
@@ -206,6 +208,28 @@ fn set_under(
         Some(seat) => seat.set(part, list),
         None => {}
     }
+}
+
+fn take_under(entries: &mut BTreeMap<EntityKey, Seat>, alloc: Global, key: &EntityKey) -> Parts
+    ensures taken { result ≡ unwrap_or (at_key key.now (parts_in entries.old.entries)) no_lists }
+    ensures parts { parts_in entries.new.entries ≡ changed_under key.now (λ l. no_lists) (parts_in entries.old.entries) }
+    ensures places { places_of entries.new.entries ≡ places_of entries.old.entries }
+    ensures seats { (ps : List (List ℕ)) (phase : Bool) → AreSeated ps phase entries.old.entries → AreSeated ps phase entries.new.entries }
+{
+    match entries.get_mut(key) {
+        Some(seat) => seat.take_parts(alloc),
+        None => Parts::new(alloc),
+    }
+}
+
+/// Gives up the lists under a key, where empty ones are then; where nothing is under it, all stays.
+pub(crate) fn take_in(room: &mut Room, alloc: Global, key: &EntityKey) -> Parts
+    ensures taken { result ≡ unwrap_or (parts_at key.now (parts_in room.old.seats)) no_lists }
+    ensures feed { room.new.feed ≡ room.old.feed }
+    ensures bytes { room.new.bytes ≡ room.old.bytes }
+    ensures parts { parts_in room.new.seats ≡ changed_under key.now (λ l. no_lists) (parts_in room.old.seats) }
+{
+    take_under(&mut room.entries, alloc, key)
 }
 
 /// Puts a list in the place of the one of a number under a key; where nothing is under it, all stays.

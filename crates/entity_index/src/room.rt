@@ -1,15 +1,17 @@
 //! What is held of a feed.
 ghost use Rattle.std.specs.Prelude.{◌≡◌, ◌<◌};
 ghost use Rattle.feed_values.specs.Views.{entity_value};
-ghost use Rattle.entity_index.specs.Lists.{with_list};
+ghost use Rattle.entity_index.specs.Lists.{no_lists, with_list};
 
 use crate::parts::Parts;
 use feed_stream::Kept;
 use feed_values::{Entity, Items};
 use rule_table::EntityKey;
 use standing_walks::Standing;
+use std::alloc::Global;
 use std::collections::BTreeMap;
 use std::marker::Model;
+use std::mem;
 
 /// An entity as it is held. Contracts see it as its place, its phase, the entity's value and the four lists.
 #[derive(Drop)]
@@ -84,6 +86,14 @@ impl Seat {
     {
         self.entity = entity;
         self.parts = parts;
+    }
+
+    /// Gives up its lists, and has empty ones then.
+    pub fn take_parts(&mut self, alloc: Global) -> Parts
+        ensures taken { result ≡ self.old.parts }
+        ensures left { self.new ≡ record self.old { parts = no_lists } }
+    {
+        mem::replace(&mut self.parts, Parts::new(alloc))
     }
 
     /// Puts a list in the place of the one of a number.

@@ -4,11 +4,14 @@
 //! `name` (the keys that each row names), `stamp` or `unstamp`. ROWS is how many rows there are, and TRIPS over how many trips
 //! and vehicles they spread. With `pass` rows whose ids never come again are put in and taken out, ROWS of them there at a time and TRIPS times
 //! as many in all. `come` and `touch` are of entities (`touch`): vehicle positions are decoded, or held too and the keys found that they
-//! touch. It prints a count of what it did.
+//! touch. With `again` a snapshot of ROWS entities comes TRIPS times (`held`), with `turned` every second time with its entities the other
+//! way round, and with `split` it is only split. It prints a count of what it did.
 #![tactic(auto)]
 
+mod held;
 mod touch;
 
+use crate::held::{held, split};
 use crate::touch::{come, touched};
 use feed_values::Text;
 use history_rules::StampIndex;
@@ -212,6 +215,9 @@ fn done(alloc: Global, work: &str, rows: u32, trips: u32) -> Result<u64, AllocEr
         "pass" => Ok(left(&passed(alloc, rows, trips)?)),
         "come" => come(alloc, rows, trips),
         "touch" => touched(alloc, rows, trips),
+        "split" => split(alloc, rows, trips),
+        "again" => held(alloc, rows, trips, false),
+        "turned" => held(alloc, rows, trips, true),
         "stamp" => above(alloc, &stamped(alloc, rows, trips)?),
         "unstamp" => {
             let index = stamped(alloc, rows, trips)?;

@@ -10,8 +10,8 @@ use std::alloc::{AllocError, Global};
 use std::marker::Brand;
 use std::sync::ledger::{Blank, Ledger};
 
-// A field with a length below 128.
-fn put_field(out: &mut Vec<u8>, tag: u8, bytes: &[u8]) -> Result<(), AllocError> {
+/// A field with a length below 128.
+pub fn put_field(out: &mut Vec<u8>, tag: u8, bytes: &[u8]) -> Result<(), AllocError> {
     out.push(tag)?;
     out.push(u8::try_from(bytes.len()).unwrap_or(0))?;
     out.extend_from_slice(bytes)?;
@@ -25,8 +25,8 @@ fn with_id(alloc: Global, id: &Text) -> Result<Vec<u8>, AllocError> {
     Ok(bytes)
 }
 
-// The bytes of an entity whose vehicle position gives a trip and a vehicle.
-fn bytes_of(alloc: Global, number: u32, trips: u32) -> Result<Vec<u8>, AllocError> {
+/// The bytes of an entity whose vehicle position gives a trip and a vehicle.
+pub fn bytes_of(alloc: Global, number: u32, trips: u32) -> Result<Vec<u8>, AllocError> {
     let part = share(scattered(number), trips);
     let trip = with_id(alloc, &text(alloc, 't', part)?)?;
     let vehicle = with_id(alloc, &text(alloc, 'v', scattered(number))?)?;

@@ -1,0 +1,25 @@
+//! The groups of rules that are judged at entities.
+
+use history_rules::BoundGroup;
+use message_rules::MessageGroup;
+use pairing_rules::PairGroup;
+use rule_table::Both;
+use schedule_rules::ScheduleGroup;
+
+/// The groups of rules with places at entities.
+#[derive(Drop)]
+pub struct PartRules {
+    pub(crate) local: Both<MessageGroup, ScheduleGroup>,
+    pub(crate) paired: PairGroup,
+    pub(crate) bounded: BoundGroup,
+}
+
+impl PartRules {
+    pub fn new() -> PartRules {
+        PartRules {
+            local: Both::new(MessageGroup::new(), ScheduleGroup::new()),
+            paired: PairGroup::new(),
+            bounded: BoundGroup::new(),
+        }
+    }
+}

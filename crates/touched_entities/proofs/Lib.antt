@@ -1,0 +1,8 @@
+pub mod OneMore
+pub mod ByRule
+pub mod Places
+pub mod Moving
+pub mod Rising
+pub mod Closing
+pub mod Fresh
+pub mod IntoPlace

@@ -1,0 +1,4 @@
+pub mod Told
+pub mod Again
+pub mod Left
+pub mod Exchanged
