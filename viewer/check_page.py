@@ -480,7 +480,7 @@ def pictures(browser, folder, kinds):
     os.makedirs(folder, exist_ok=True)
     for name, tab in (("levels", "rules"), ("levels", "findings"), ("levels", "routes"), ("follow", "time"), ("follow", "findings"), ("crowd", "time"), ("crowd", "rules"), ("crowd", "routes"), ("many", "entities"), ("hostile", "findings"), ("broken", "unread")):
         load(browser, kinds[name], "#view=" + tab)
-        for width, height in WIDTHS:
+        for width, height in ((1440, 900), (390, 1900)):
             for theme in ("light", "dark"):
                 browser.picture("%s/%s-%s-%d-%s.png" % (folder, name, tab, width, theme), width, height, theme)
 
