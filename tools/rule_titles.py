@@ -1,10 +1,10 @@
 #!/usr/bin/env python3
 """Checks that each rule has one title, and the same one wherever it stands.
 
-    python3 tools/titles.py
+    python3 tools/rule_titles.py
 
 The rules are those of crates/rule_table, the titles those of the table "Titles" of docs/rules.md. Each title's link leads to one row of that
-page; the viewer has the same titles; and a crate that prints titles (CRATES) has each as a text of its own. What differs is printed; the status is then 1.
+page, and the viewer has the same titles. What differs is printed; the status is then 1.
 """
 import json
 import pathlib
@@ -12,7 +12,6 @@ import re
 import sys
 
 TOP = pathlib.Path(__file__).resolve().parent.parent
-CRATES = ["rule_titles", "rt_summary"]  # those of them that are there
 LONGEST = 52  # so that a line of 80 columns has room for the level, the rule and its counts
 
 
@@ -44,13 +43,8 @@ def main():
             faults.append(f"{rule}: its link #{anchor} leads to no row, or to two")
     if viewer_titles() != set(table.items()):
         faults.append(f"the viewer's titles differ: {sorted(viewer_titles() ^ set(table.items()))}")
-    there = [name for name in CRATES if (TOP / "crates" / name / "src").is_dir()]
-    if there:
-        code = "".join(file.read_text(encoding="utf-8") for name in there for file in sorted((TOP / "crates" / name / "src").rglob("*.rt")))
-        faults += [f"{rule}: no text of {', '.join(there)} is its title" for rule, _, title in rows if json.dumps(title) not in code]
     print(*faults, sep="\n", end="\n" if faults else "")
-    print(f"titles: {len(rows)} of {len(names)} rules have one, the same in docs/rules.md, the viewer{''.join(' and ' + name for name in there)}" if not faults
-          else f"titles: {len(faults)} faults")
+    print(f"titles: {len(rows)} of {len(names)} rules have one, the same in docs/rules.md and the viewer" if not faults else f"titles: {len(faults)} faults")
     return 1 if faults else 0
 
 
