@@ -10,13 +10,22 @@ use std::marker::Brand;
 use std::sync::ledger::{Blank, Ledger};
 use touched_entities::{decode_fresh, exchange};
 
+// An entity of some 600 bytes: a vehicle position, and fields that no schema has.
+fn put_entity(out: &mut Vec<u8>, alloc: Global, number: u32, rows: u32) -> Result<(), AllocError> {
+    let mut bytes = bytes_of(alloc, number, rows)?;
+    for _ in 0..5 {
+        put_field(&mut bytes, 0x7A, &[b'x'; 110])?;
+    }
+    out.push(0x12)?;
+    let length = bytes.len();
+    out.push((length % 128) as u8 + 0x80)?;
+    out.push(u8::try_from(length / 128).unwrap_or(0))?;
+    out.extend_from_slice(bytes.as_slice())?;
+    Ok(())
+}
+
 // A snapshot of some vehicle positions, in their order or the other way round.
-fn snapshot(
-    alloc: Global,
-    rows: u32,
-    trips: u32,
-    turned: bool,
-) -> Result<Option<Kept>, AllocError> {
+fn snapshot(alloc: Global, rows: u32, turned: bool) -> Result<Option<Kept>, AllocError> {
     let mut bytes = Vec::new(alloc);
     put_field(&mut bytes, 0x0A, &[0x0A, 3, b'2', b'.', b'0'])?;
     for place in 0..rows {
@@ -25,7 +34,7 @@ fn snapshot(
         } else {
             place.wrapping_add(1)
         };
-        put_field(&mut bytes, 0x12, bytes_of(alloc, number, trips)?.as_slice())?;
+        put_entity(&mut bytes, alloc, number, rows)?;
     }
     match Splitter::new(alloc).feed(bytes.as_slice())?.finish() {
         Ok(kept) => Ok(Some(kept)),
@@ -73,7 +82,7 @@ pub fn held(alloc: Global, rows: u32, times: u32, turned: bool) -> Result<u64, A
     let mut index = EntityIndex::new(alloc);
     for time in 0..times {
         let other = turned && time % 2 == 1;
-        let kept = snapshot(alloc, rows, rows, other)?;
+        let kept = snapshot(alloc, rows, other)?;
         let taken = take_if(alloc, index, kept)?;
         index = taken.index;
         count = count.wrapping_add(taken.fresh);
@@ -85,7 +94,7 @@ pub fn held(alloc: Global, rows: u32, times: u32, turned: bool) -> Result<u64, A
 pub fn split(alloc: Global, rows: u32, times: u32) -> Result<u64, AllocError> {
     let mut count = 0u64;
     for _ in 0..times {
-        if let Some(kept) = snapshot(alloc, rows, rows, false)? {
+        if let Some(kept) = snapshot(alloc, rows, false)? {
             count = count.wrapping_add(kept.len() as u64);
         }
     }

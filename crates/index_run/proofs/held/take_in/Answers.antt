@@ -12,4 +12,4 @@ decode_fresh-requires g c =
     (subst (λ keys. AreThere 0 c.args.kept (fresh_places 0 old c.args.kept) keys) (sym is.keys_are) (c.fresh_are_there.ensures 0 old c.args.kept))
 
 pub exchange-requires : goal.exchange-requires
-exchange-requires g c = record { keys_are = c.in_ok-coming.ensures.keys ∙ c.in_ok-changes.ensures.keys_are; values_are = c.in_ok-coming.ensures.values }
+exchange-requires g c = record { coming = record { keys_are = c.in_ok-coming.ensures.keys ∙ c.in_ok-changes.ensures.keys_are; values_are = c.in_ok-coming.ensures.values } }
