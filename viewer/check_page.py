@@ -6,7 +6,7 @@
 What a report says is read here a second time, from its lines alone. Where PICTURES names a folder, the screens are put there, wide
 and narrow, light and dark, to be looked at; else nothing is kept.
 """
-import collections, json, os, re, sys, tempfile, time
+import collections, csv, datetime, json, os, re, sys, tempfile, time, zoneinfo
 from pathlib import Path
 
 import reports
@@ -38,6 +38,28 @@ def visible(text):
     return re.sub(unseen, lambda found: "\\u%04x" % ord(found[0]), text)
 
 
+def place_of(finding):
+    return tuple(finding.get(key) for key in ("rule", "path", "feed", "id", "occurrence"))
+
+
+def named_by(finding):
+    """The routes and the trips that a finding's facts name."""
+    routes, trips = set(), set()
+    for fact in finding["facts"]:
+        ask, keys, value = fact["ask"], fact["keys"], fact["value"]
+        if ask == "route_known":
+            routes.add(keys[0])
+        elif isinstance(value, str) and (ask == "trip_route" or ask == "cell" and keys[0].endswith("route_id")):
+            routes.add(value)
+        if ask == "cell" and keys[0].endswith(".trip_id") and isinstance(value, str):
+            trips.add(value)
+        elif ask in ("first_vehicle", "has_pair", "has_trip"):
+            trips.add(keys[1])
+        elif ask in ("trip_known", "trip_route", "trip_direction", "trip_exact", "on_grid", "visits_twice", "first_arrival", "stop_at", "arrival_at", "departure_at"):
+            trips.add(keys[0])
+    return routes, trips
+
+
 class Said:
     """What the lines of a report say."""
 
@@ -67,35 +89,44 @@ class Said:
         self.follows = any(f["line"] == "opened" for f in self.findings)
 
     def rules(self, findings=None):
-        """Each rule with how many findings and entities it has."""
-        counts, entities = collections.Counter(), collections.defaultdict(set)
+        """Each rule with how many places it broke at, how many lines opened it (of `follow`), and how many entities it has."""
+        places, counts, entities = collections.defaultdict(set), collections.Counter(), collections.defaultdict(set)
         for f in self.findings if findings is None else findings:
             counts[f["rule"]] += 1
+            places[f["rule"]].add(place_of(f))
             if "id" in f:
                 entities[f["rule"]].add((f["feed"], f["id"], f["occurrence"]))
-        return {rule: [grouped(n), grouped(len(entities[rule])) if entities[rule] else "header"] for rule, n in counts.items()}
+        return {rule: [grouped(len(places[rule]))] + ([grouped(n)] if self.follows else []) + [grouped(len(entities[rule])) if entities[rule] else "header"]
+                for rule, n in counts.items()}
 
-    def routes(self):
-        counts = collections.Counter()
+    def routes(self, route_of=None):
+        """Each route with its places: by the facts, else by the trip that they name, else by the trips that the entity's findings name."""
+        route_of, of_entity, places = route_of or {}, collections.defaultdict(set), collections.defaultdict(set)
         for f in self.findings:
-            named = set()
-            for fact in f["facts"]:
-                ask, keys, value = fact["ask"], fact["keys"], fact["value"]
-                if ask == "route_known":
-                    named.add(keys[0])
-                elif isinstance(value, str) and (ask == "trip_route" or ask == "cell" and keys[0].endswith("route_id")):
-                    named.add(value)
-            counts.update(named)
-        return counts
+            of_entity[(f["feed"], f.get("id"), f.get("occurrence"))] |= named_by(f)[1] if "id" in f else set()
+        for f in self.findings:
+            routes, trips = named_by(f)
+            for names in (trips, of_entity[(f["feed"], f.get("id"), f.get("occurrence"))]):
+                routes = routes or {route_of[trip] for trip in names if trip in route_of}
+            for route in routes:
+                places[route].add(place_of(f))
+        return {route: len(found) for route, found in places.items()}
+
+    def ordered(self):
+        """Errors first, and else as they stand."""
+        return sorted(self.findings, key=lambda f: "EX?W".index(f["level"] if f["level"] in ("E", "X", "W") else "?"))
+
+    def places(self):
+        return {place_of(f) for f in self.findings}
 
     def verdict(self):
-        errors = [f for f in self.findings if f["level"] != "W"]
-        warnings = len(self.findings) - len(errors)
+        errors = {place_of(f) for f in self.findings if f["level"] != "W"}
+        warnings = len(self.places()) - len(errors)
         parts = [plural(len(self.refused), "snapshot") + " refused"] if self.refused else []
         parts += [plural(len(errors), "error")] if errors else []
         parts += [plural(warnings, "warning")] if warnings else []
         stand = len(self.standing)
-        return ", ".join(parts) + ("; %d %s at the end" % (stand, "stands" if stand == 1 else "stand") if self.follows else "")
+        return ", ".join(parts) + ("; %s %s at the end" % (grouped(stand), "stands" if stand == 1 else "stand") if self.follows else "")
 
 
 def load(browser, lines, fragment="", end="\n"):
@@ -145,7 +176,8 @@ def compare(browser, name, lines, said):
     numbers = browser.ask("Object.fromEntries([...document.querySelectorAll('#numbers > div')].map(one => [one.children[0].textContent, one.children[1].textContent]))")
     expect(name + ": accepted", numbers["Snapshots accepted"], grouped(len(said.accepted)))
     expect(name + ": refused", numbers["Snapshots refused"], grouped(len(said.refused)))
-    expect(name + ": findings", numbers["Findings"], grouped(len(said.findings)))
+    expect(name + ": findings", numbers["Places that broke" if said.follows else "Findings"], grouped(len(said.places())))
+    expect(name + ": openings", numbers.get("Opened, or again with other facts"), grouped(len(said.findings)) if said.follows else None)
     expect(name + ": lines", numbers["Lines"], grouped(len(lines)))
     expect(name + ": standing", numbers.get("Stand at the end"), grouped(len(said.standing)) if said.follows else None)
     if said.verdict():
@@ -165,7 +197,7 @@ def compare_lists(browser, name, lines, said):
     view(browser, "findings")
     shown = rows(browser, "finding-rows") if said.findings else []
     expect(name + ": finding rows", len(shown), len(said.findings))
-    for f, words in zip(said.findings, shown):
+    for f, words in zip(said.ordered(), shown):
         wanted = [f["rule"], "“%s" % visible(f["id"])[:90] if "id" in f else "header of feed"]
         wanted += [str(fact["value"])[:90] for fact in f["facts"] if fact["value"] not in (None, 0, 1)]
         missing = [part for part in wanted if visible(part) not in words and part not in words]
@@ -232,7 +264,7 @@ def check_keys(browser, lines):
     chosen = "document.getElementById(document.getElementById('finding-rows').getAttribute('aria-activedescendant'))"
     expect("chosen by arrows", browser.ask(chosen + ".getAttribute('aria-posinset')"), "3")
     expect("chosen is said", browser.ask(chosen + ".getAttribute('aria-selected')"), "true")
-    expect("detail follows", text(browser, "#all .detail h3 .level"), json.loads(lines[4])["rule"])
+    expect("detail follows", text(browser, "#all .detail h3 .level"), Said(lines).ordered()[2]["rule"])
     browser.press("Enter")
     expect("detail has the focus", browser.ask("document.activeElement.className"), "detail")
     browser.press("Escape")
@@ -285,6 +317,95 @@ def check_width(browser, lines, name):
     browser.call("Emulation.clearDeviceMetricsOverride")
 
 
+# All texts in sight that stand on one another, and all of the plot that stand on a bar: each by its box, cut off where an ancestor cuts it off.
+COVERED = """(() => {
+    const seen = node => { for (let at = node; at; at = at.parentElement) { if (at.classList && (at.classList.contains('unseen') || at.classList.contains('probe'))) return false; } return true; };
+    const clipped = (box, node) => {
+        let { left, right, top, bottom } = box;
+        for (let at = node; at && at !== document.documentElement; at = at.parentElement) {
+            if (at.tagName !== 'svg' && getComputedStyle(at).overflow === 'visible' || at.tagName === 'text') continue;
+            const edge = at.getBoundingClientRect();
+            [left, right, top, bottom] = [Math.max(left, edge.left), Math.min(right, edge.right), Math.max(top, edge.top), Math.min(bottom, edge.bottom)];
+        }
+        return { left, right, top, bottom };
+    };
+    const texts = [], walk = document.createTreeWalker(document.body, NodeFilter.SHOW_TEXT);
+    for (let node = walk.nextNode(); node; node = walk.nextNode()) {
+        const parent = node.parentElement;
+        if (!node.data.trim() || /^(SCRIPT|STYLE|OPTION)$/.test(parent.tagName) || !seen(parent)) continue;
+        const range = document.createRange();
+        range.selectNodeContents(node);
+        for (const box of range.getClientRects()) texts.push({ node, name: node.data.trim().slice(0, 40), ...clipped(box, parent) });
+    }
+    const bars = [...document.querySelectorAll('#time svg path')].map(node => ({ node, name: 'a bar', ...clipped(node.getBoundingClientRect(), null) }));
+    const there = texts.filter(box => box.right - box.left > 1 && box.bottom - box.top > 1);
+    const over = (a, b) => Math.min(a.right, b.right) - Math.max(a.left, b.left) > 1 && Math.min(a.bottom, b.bottom) - Math.max(a.top, b.top) > 4;
+    const found = [];
+    there.forEach((a, i) => [...there.slice(i + 1), ...bars].forEach(b => { if (a.node !== b.node && over(a, b)) found.push(a.name + ' / ' + b.name); }));
+    const out = there.filter(box => box.right > innerWidth + 1 || box.left < -1).map(box => box.name + ' / the edge of the screen');
+    return { count: there.length, found: [...found, ...out].slice(0, 20) };
+})()"""
+WIDTHS = ((1440, 900), (390, 844))
+
+
+def check_boxes(browser, kinds):
+    """No text stands on another one, on a bar or over the edge, on both widths and where counts have five digits."""
+    for width, height in WIDTHS:
+        browser.call("Emulation.setDeviceMetricsOverride", width=width, height=height, deviceScaleFactor=1, mobile=False)
+        for name, lines in kinds.items():
+            load(browser, lines)
+            for tab in ("rules", "entities", "routes", "time", "findings", "snapshots"):
+                if not browser.ask("Boolean(document.getElementById('tab-%s'))" % tab):
+                    continue
+                view(browser, tab)
+                boxes = browser.ask("new Promise(done => requestAnimationFrame(() => requestAnimationFrame(done))).then(() => %s)" % COVERED)
+                expect("%s at %d: boxes of %s" % (name, width, tab), boxes["found"] if boxes["count"] > 10 else "no text was found", [])
+    browser.call("Emulation.clearDeviceMetricsOverride")
+
+
+def check_order_and_times(browser, lines, said):
+    """Findings as in the report, and times of this machine's clock: what is chosen stands in the link."""
+    load(browser, lines, "#view=findings")
+    moment = said.accepted[0]["moment"]
+    browser.call("Emulation.setTimezoneOverride", timezoneId="America/St_Johns")
+    for key, value in (("order", "report"), ("zone", "local")):
+        browser.ask("const %s = document.getElementById('%s'); %s.value = '%s'; %s.dispatchEvent(new Event('change'))" % (key, key, key, value, key))
+    expect("order and zone in the link", browser.ask("location.hash"), "#view=findings&order=report&zone=local")
+    for f, words in zip(said.findings, rows(browser, "finding-rows")):
+        expect("a row as in the report", words.startswith(f["rule"]) and ("id" not in f or visible(f["id"])[:90] in words), True)
+    view(browser, "snapshots")
+    here = datetime.datetime.fromtimestamp(moment, zoneinfo.ZoneInfo("America/St_Johns"))
+    expect("a moment of the local clock", here.strftime("%Y-%m-%d %H:%M:%S UTC-03:30") in rows(browser, "snapshot-rows")[0], True)
+    browser.ask("const back = document.getElementById('zone'); back.value = ''; back.dispatchEvent(new Event('change'))")
+    there = datetime.datetime.fromtimestamp(moment, datetime.timezone.utc)
+    expect("a moment of UTC", there.strftime("%Y-%m-%d %H:%M:%S UTC") in rows(browser, "snapshot-rows")[0], True)
+    browser.call("Emulation.setTimezoneOverride", timezoneId="")
+
+
+def check_routes(browser, lines, said):
+    """The view by route says what it counts, and counts by trips.txt where it is given one."""
+    load(browser, lines, "#view=routes")
+    words = text(browser, "#route-count")
+    expect("what is counted", "whose facts name a route" in words and "Left out:" in words, True)
+    trips = sorted({trip for f in said.findings for trip in named_by(f)[1]})
+    route_of = {trip: 'Line "%d", east' % (n % 3) for n, trip in enumerate(trips)}
+    with tempfile.NamedTemporaryFile("w", suffix=".txt", encoding="utf-8-sig", newline="") as file:
+        writer = csv.writer(file)
+        writer.writerows([["route_id", "service_id", "trip_id"], *([route, "daily", trip] for trip, route in route_of.items())])
+        file.flush()
+        browser.choose("#trips", file.name)
+        browser.ask("new Promise(done => { const look = () => document.getElementById('route-count').textContent.includes('by the trip') ? done() : setTimeout(look, 20); look(); })")
+    wanted = said.routes(route_of)
+    shown = {}
+    for row in rows(browser, "route-rows"):
+        route = re.match("“(.*?)”(?=[0-9])", row)
+        shown[route[1]] = sum(int(n.replace(",", "")) for n in re.findall("([0-9,]+) (?:error|warning)", row[route.end():]))
+    expect("routes by trips.txt", shown, wanted)
+    expect("more are counted", sum(wanted.values()) > sum(said.routes().values()), True)
+    numbers = [int(n.replace(",", "")) for n in re.findall("([0-9,]+) (?:opening|finding|by )", text(browser, "#route-count"))]
+    expect("what is counted adds up", sum(numbers), len(said.findings))
+
+
 def check_time(browser, lines, said):
     """How many stood after each snapshot, by the slider and by the filter."""
     load(browser, lines, "#view=time")
@@ -320,7 +441,7 @@ def check_many(browser, lines, said):
     expect("filter of many", text(browser, "#shown"), "%s of 100,000 findings shown" % grouped(len(kept)))
     browser.ask("document.getElementById('reset').click(); document.getElementById('finding-rows').focus()")
     browser.press("End")
-    expect("the last of many", said.findings[-1]["id"] in text(browser, "#finding-rows [aria-selected=true]"), True)
+    expect("the last of many", said.ordered()[-1]["id"] in text(browser, "#finding-rows [aria-selected=true]"), True)
     expect("its number", browser.ask("document.querySelector('#finding-rows [aria-selected=true]').getAttribute('aria-posinset')"), "100000")
 
 
@@ -357,9 +478,9 @@ def check_drop(browser, lines, said):
 
 def pictures(browser, folder, kinds):
     os.makedirs(folder, exist_ok=True)
-    for name, tab in (("levels", "rules"), ("levels", "findings"), ("follow", "time"), ("follow", "findings"), ("many", "entities"), ("hostile", "findings"), ("broken", "unread")):
+    for name, tab in (("levels", "rules"), ("levels", "findings"), ("levels", "routes"), ("follow", "time"), ("follow", "findings"), ("crowd", "time"), ("crowd", "rules"), ("crowd", "routes"), ("many", "entities"), ("hostile", "findings"), ("broken", "unread")):
         load(browser, kinds[name], "#view=" + tab)
-        for width, height in ((1400, 900), (390, 844)):
+        for width, height in ((1440, 900), (390, 1900)):
             for theme in ("light", "dark"):
                 browser.picture("%s/%s-%s-%d-%s.png" % (folder, name, tab, width, theme), width, height, theme)
 
@@ -380,7 +501,7 @@ def check_other_files(browser):
 def main():
     follow, standing = reports.followed()
     kinds = {"accepted": reports.only_accepted(), "refused": reports.only_refused(), "levels": reports.all_levels(), "follow": follow,
-             "hostile": reports.hostile(), "broken": reports.broken(), "far": reports.far_ahead(), "many": reports.many(), "empty": []}
+             "hostile": reports.hostile(), "broken": reports.broken(), "far": reports.far_ahead(), "crowd": reports.crowd(), "many": reports.many(), "empty": []}
     said = {name: Said(lines) for name, lines in kinds.items()}
     expect("what was made stands", len(said["follow"].standing), standing)
     browser = Browser()
@@ -388,7 +509,7 @@ def main():
         for name, lines in kinds.items():
             load(browser, lines, end="" if name in ("broken", "empty") else "\n")
             compare(browser, name, lines, said[name])
-            if name != "many":
+            if name not in ("many", "crowd"):
                 compare_lists(browser, name, lines, said[name])
                 check_names(browser, name)
             print("%s: %d lines compared" % (name, len(lines)))
@@ -400,6 +521,10 @@ def main():
         check_keys(browser, kinds["levels"])
         check_sentences(browser)
         check_contrast(browser, kinds["levels"], "levels")
+        check_boxes(browser, {name: kinds[name] for name in ("levels", "refused", "follow", "crowd", "far", "hostile")})
+        check_order_and_times(browser, kinds["levels"], said["levels"])
+        check_routes(browser, kinds["levels"], said["levels"])
+        check_routes(browser, kinds["crowd"], said["crowd"])
         check_width(browser, kinds["follow"], "follow")
         check_width(browser, kinds["hostile"], "hostile")
         check_time(browser, kinds["follow"], said["follow"])

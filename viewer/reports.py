@@ -107,6 +107,20 @@ def many(count=100000):
     return lines
 
 
+def crowd(count=12345, snapshots=6):
+    """A history with counts of five digits: places that open, open again with other facts, and close."""
+    lines = []
+    for snapshot in range(snapshots):
+        moment = START + 30 * snapshot
+        lines.append(accepted(snapshot, 0, snapshot, moment, count))
+        if snapshot == 0:
+            lines += [no_relationship("trip-%d" % n, kind="opened") for n in range(count)]
+        lines += [newer("trip-%d" % n, moment + 5, head=moment, since=1, kind="opened") for n in range(count if snapshot in (1, 3) else 0)]
+        lines += [other_route("trip-%d" % n, "T%d" % n, "R%d" % (n % 40), "R0", since=2, kind="opened") for n in range(count - 200 if snapshot == 2 else 0)]
+        lines += [closed("E012", "trip_update.timestamp", "trip-%d" % n) for n in range(count // 2 if snapshot == 4 else 0)]
+    return lines
+
+
 # Facts, and what the page is to say of each.
 WORDS = [
     ("cell", ["trip_update.timestamp"], 1700000000, "trip_update.timestamp is 1700000000 (2023-11-14 22:13:20 UTC)"),

@@ -26,11 +26,19 @@ def table_rows(text, columns):
             yield heading, cells
 
 
+def titles():
+    """Each rule's title, from the table of titles."""
+    rows = table_rows((DOCS / "rules.md").read_text(), 2)
+    return {re.match(r"\[(\w+)\]", rule)[1]: title for heading, (rule, title) in rows if heading == "Titles" and rule.startswith("[")}
+
+
 def rules():
-    for heading, (rule, place, facts, breaks, means) in table_rows((DOCS / "rules.md").read_text(), 5):
+    title = titles()
+    for heading, (name, place, facts, breaks, means) in table_rows((DOCS / "rules.md").read_text(), 5):
+        rule = re.sub("<a[^>]*></a>", "", name)
         if re.fullmatch("[EWX][0-9]{3}", rule):
             on = "header" if heading == "The header" else "entity"
-            yield {"rule": rule, "on": on, "breaks": breaks, "means": means}
+            yield {"rule": rule, "on": on, "title": title[rule], "breaks": breaks, "means": means}
 
 
 def reasons():

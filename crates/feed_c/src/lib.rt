@@ -1,0 +1,80 @@
+//! Two calls for C and for whatever calls C: a snapshot as JSON, and the report on a snapshot, from bytes in memory to bytes in memory.
+//!
+//! They are the commands `show` and `check` over one file in memory, so the text and the answer are theirs. An answer is an exit
+//! status of the program: 0 and 1 with the whole text, 4 where the buffer is too small, 5 where memory is. include/feed.h declares them.
+//!
+//! - `answering`: what was written, into the caller's buffer
+#![tactic(auto)]
+
+ghost use Rattle.std.specs.Prelude.{◌≡◌, ◌≤◌, length};
+
+mod answering;
+
+use crate::answering::answered;
+use rt_outside::{MemoryFiles, MemorySink};
+use run_base::Status;
+use run_json::show;
+use run_snapshot::report_file;
+use std::alloc::{AllocError, Global};
+use timetable::Timetable;
+
+/// The name under which the bytes are held, which nobody sees.
+const NAME: &str = "snapshot";
+
+/// How many bytes the text on the error stream may have: it is not handed on.
+const ERROR_ROOM: usize = 256;
+
+// The snapshot of these bytes as `show` writes it.
+fn shown(alloc: Global, bytes: &[u8], room: usize) -> Result<(Status, MemorySink), AllocError> {
+    let mut files = MemoryFiles::new(alloc);
+    files.add(NAME, bytes)?;
+    let mut out = MemorySink::new(alloc, room)?;
+    let mut err = MemorySink::new(alloc, ERROR_ROOM)?;
+    let status = show(alloc, NAME, &mut files, &mut out, &mut err);
+    Ok((status, out))
+}
+
+// The report of `check` on these bytes, without a timetable.
+fn checked(
+    alloc: Global,
+    bytes: &[u8],
+    moment: u64,
+    room: usize,
+) -> Result<(Status, MemorySink), AllocError> {
+    let mut files = MemoryFiles::new(alloc);
+    files.add(NAME, bytes)?;
+    let mut out = MemorySink::new(alloc, room)?;
+    let mut err = MemorySink::new(alloc, ERROR_ROOM)?;
+    let table = Timetable::absent(alloc);
+    let status = report_file(alloc, moment, &table, NAME, &mut files, &mut out, &mut err);
+    Ok((status, out))
+}
+
+/// Writes the JSON of a snapshot, or the line of one that is refused, to the front of `out`.
+#[unsafe(no_mangle)]
+pub extern "C" fn feed_decode(
+    alloc: Global,
+    bytes: &[u8],
+    out: &mut [u8],
+    written: &mut usize,
+) -> u8
+    ensures within { written.new ≤ length out.new }
+    ensures kept { length out.new ≡ length out.old }
+{
+    answered(shown(alloc, bytes, out.len()), out, written)
+}
+
+/// Writes the report on a snapshot that was taken at this moment, in POSIX seconds, to the front of `out`.
+#[unsafe(no_mangle)]
+pub extern "C" fn feed_check(
+    alloc: Global,
+    bytes: &[u8],
+    moment: u64,
+    out: &mut [u8],
+    written: &mut usize,
+) -> u8
+    ensures within { written.new ≤ length out.new }
+    ensures kept { length out.new ≡ length out.old }
+{
+    answered(checked(alloc, bytes, moment, out.len()), out, written)
+}
