@@ -1,0 +1,4 @@
+pub mod ShownLemmas
+pub mod RuleLemmas
+pub mod LineLemmas
+pub mod SumLemmas

@@ -1,0 +1,21 @@
+//! What the lines of a report come to for one rule.
+//!
+//! A line tells of its rule at a place: that it breaks there (`finding`), that it came to break (`opened`) or breaks no more (`closed`).
+//! A [`Tally`] takes such lines one by one. `specs/Tallies.antt` says what it is of a list of them; its memory grows with the places that
+//! opened, and not with the lines of a `check` report.
+//!
+//! - `counting`: one more
+//! - `telling`: what a line tells of its rule
+//! - `names`: names, each once, with a mark
+//! - `tally`: the lines of one rule
+#![tactic(auto)]
+
+mod counting;
+mod names;
+mod tally;
+mod telling;
+
+pub use counting::one_more;
+pub use names::Names;
+pub use tally::Tally;
+pub use telling::Telling;
