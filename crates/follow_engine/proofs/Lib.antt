@@ -14,3 +14,4 @@ pub mod IdsChanged
 pub mod OneRoom
 pub mod HasArrived
 pub mod Flat
+pub mod EntitiesHeld

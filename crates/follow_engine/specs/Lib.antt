@@ -11,3 +11,4 @@ pub mod Arrived
 pub mod Engines
 pub mod Decoded
 pub mod Followed
+pub mod Entities

@@ -7,8 +7,10 @@ ghost use Rattle.rule_history.specs.History.{Snapshot};
 ghost use Rattle.engine_laws.specs.Delta.{IsDelta};
 ghost use Rattle.engine_laws.specs.Standings.{StandsFor};
 ghost use Rattle.follow_engine.specs.Deltas.{delta_value};
+ghost use Rattle.follow_engine.specs.Entities.{entities_after, entities_held};
 
 use crate::delta::Delta;
+use crate::entities::EntitiesIter;
 use crate::feeds::Feeds;
 use crate::findings::FindingsIter;
 use crate::following::{Followed, follow};
@@ -103,5 +105,14 @@ impl Engine {
         ensures { result ≡ (engine_data self.now).list }
     {
         FindingsIter::new(&self.feeds.rooms)
+    }
+
+    /// The entities of the last snapshots of all feeds, each under its key, in the order of their keys. It takes no memory.
+    #[tactic(auto, using(crate::proofs::EntitiesHeld::held_after))]
+    pub fn entities(&self) -> EntitiesIter<'_>
+        ensures held { result ≡ entities_held self.now.feeds }
+        ensures after { (t : Option Tables) (h : List Snapshot) → StandsFor (engine_data self.now) t h → result ≡ entities_after h }
+    {
+        EntitiesIter::new(&self.feeds.rooms)
     }
 }
