@@ -1,8 +1,8 @@
 #!/usr/bin/env python3
-"""Runs the commands of docs/recipes.md on two agencies with two feeds each over ten moments: check_recipes.py [PROGRAM] [-v].
+"""Runs the commands of docs/recipes.md on two agencies with two feeds each over ten moments: check_recipes.py [PROGRAM [SUMMARY]] [-v].
 
 A block of the page that begins with `#!` or names itself a file is written as that file; any other is run by bash in one folder, in the order of the
-page, with the program on the PATH and a server on port 8000. Its status has to be 0, or 1 or 123 where something was found, and standard error empty. Beside
+page, with the programs on the PATH and a server on port 8000. Its status has to be 0, or 1 or 123 where something was found, and standard error empty. Beside
 that, what the scripts of tools/ write is compared with what is counted here a second time. A block is left out, and said to be, where a
 tool is missing that it needs; blocks in UNTRIED are left out always, and the text before them has to say `untried`.
 """
@@ -26,9 +26,9 @@ import urllib.request
 TOP = pathlib.Path(__file__).resolve().parent.parent
 START = 1700006250  # the sixth moment is midnight in UTC
 MOMENTS = [START + 30 * n for n in range(10)]
-UNTRIED = ("PATH=/usr/local/bin", "printf '%s\\n' city coast | parallel --sshloginfile", "CREATE VIEW finding AS")
+UNTRIED = ("PATH=/usr/local/bin", "0 6 * * *", "printf '%s\\n' city coast | parallel --sshloginfile", "CREATE VIEW finding AS")
 SHOWN = ("archive/city/trips/",)  # blocks that are no commands
-NEEDS = {"prometheus-node-exporter": "prometheus-node-exporter", "promtool": "promtool", "parallel": "parallel", "pv": "pv", "sqlite3": "sqlite3", "python3 year.py": "aws moto_server dask-scheduler",
+NEEDS = {"rt_summary": "rt_summary", "prometheus-node-exporter": "prometheus-node-exporter", "promtool": "promtool", "parallel": "parallel", "pv": "pv", "sqlite3": "sqlite3", "python3 year.py": "aws moto_server dask-scheduler",
          "aws ": "aws moto_server"}
 faults = []
 
@@ -300,10 +300,13 @@ def main():
     verbose = "-v" in sys.argv
     words = [word for word in sys.argv[1:] if word != "-v"]
     program = pathlib.Path(words[0] if words else TOP / "crates/rt_command/out/rt_command").resolve()
+    summary = pathlib.Path(words[1] if len(words) > 1 else TOP / "crates/rt_summary/out/rt_summary").resolve()
     with tempfile.TemporaryDirectory() as folder:
         work = pathlib.Path(folder)
         (work / "bin").mkdir()
         (work / "bin/rt_command").symlink_to(program)
+        if summary.exists():
+            (work / "bin/rt_summary").symlink_to(summary)
         (work / "tools").symlink_to(TOP / "tools")
         (work / "www/city").mkdir(parents=True)
         for agency in ("city", "coast"):

@@ -2,6 +2,8 @@
 //!
 //! An [`AlertView`] is made of an engine once, and asked as often as one likes. What is in force is as `alert_terms` defines it, over the
 //! entities of the history that the engine stands for. It keeps of each alert what the answers need, and none of its texts.
+//!
+//! - `view`: the alerts of an engine
 #![tactic(auto)]
 
 mod view;
