@@ -13,44 +13,80 @@ TOP = pathlib.Path(__file__).resolve().parent.parent
 FILE = TOP / "crates/summary_text/src/titles.rt"
 sys.path.insert(0, str(TOP / "viewer"))
 sys.dont_write_bytecode = True
-import rules as texts  # noqa: E402
+from rules import rules  # noqa: E402
 
 
-def arm(rule, text):
-    text = text.replace("`", "").replace("\\", "\\\\").replace('"', '\\"')
-    line = f'        RuleId::{rule} => "{text}",\n'
-    return line if len(line) <= 101 else f'        RuleId::{rule} => {{\n            "{text}"\n        }}\n'
+HEAD = """//! Each rule's title, and what it means and how to mend it, as docs/rules.md says them. Written by tools/titles.py.
+
+use rule_table::RuleId;
+
+/// What is said of a rule.
+struct RuleTexts {
+    rule: RuleId,
+    /// It in a few words.
+    title: &'static str,
+    /// What it means on a header, and how to mend it; empty where it is judged on none.
+    on_header: &'static str,
+    /// The same at an entity.
+    at_entity: &'static str,
+}
+
+/// A rule in a few words.
+pub fn title_of(rule: RuleId) -> &'static str {
+    match texts_of(rule) {
+        Some(texts) => texts.title,
+        None => "",
+    }
+}
+
+/// What a rule means where it breaks on a header, or at an entity.
+pub fn meaning_of(rule: RuleId, is_on_header: bool) -> &'static str {
+    match texts_of(rule) {
+        Some(texts) => meaning_in(texts, is_on_header),
+        None => "",
+    }
+}
+
+// The text of the other place where this one has none.
+fn meaning_in(texts: &'static RuleTexts, is_on_header: bool) -> &'static str {
+    if texts.at_entity.is_empty() || is_on_header && !texts.on_header.is_empty() {
+        texts.on_header
+    } else {
+        texts.at_entity
+    }
+}
+
+fn texts_of(rule: RuleId) -> Option<&'static RuleTexts> {
+    TEXTS.iter().find(|texts| texts.rule == rule)
+}
+
+const TEXTS: &[RuleTexts] = &[
+"""
 
 
-def function(head, comment, arms):
-    """A function that matches a rule. `arms` are pairs of a rule and its text."""
-    return f"/// {comment}\n{head}(rule: RuleId) -> &'static str {{\n    match rule {{\n" + "".join(arm(*it) for it in sorted(arms))
+def quoted(text):
+    return '"' + text.replace("`", "").replace("\\", "\\\\").replace('"', '\\"') + '"'
+
+
+def member(name, text):
+    return f"        {name}: {quoted(text)},\n"
 
 
 def written():
-    rows = list(texts.rules())
-    means = {place: [(row["rule"], row["means"]) for row in rows if row["on"] == place] for place in ("header", "entity")}
-    return (
-        "//! Each rule's title, and what it means and how to mend it, as docs/rules.md says them. Written by tools/titles.py.\n\n"
-        "use rule_table::RuleId;\n\n"
-        + function("pub fn title_of", "A rule in a few words.", {(row["rule"], row["title"]) for row in rows})
-        + "    }\n}\n\n"
-        "/// What a rule means where it breaks on a header, or at an entity.\n"
-        "pub fn meaning_of(rule: RuleId, is_on_header: bool) -> &'static str {\n"
-        "    let meaning = if is_on_header {\n        header_meaning(rule)\n    } else {\n        entity_meaning(rule)\n    };\n"
-        "    if meaning.is_empty() {\n        header_meaning(rule)\n    } else {\n        meaning\n    }\n}\n\n"
-        + function("fn header_meaning", "On a header.", means["header"])
-        + '        _ => "",\n    }\n}\n\n'
-        + function("fn entity_meaning", "At an entity.", means["entity"])
-        + '        _ => "",\n    }\n}\n'
-    )
+    texts = {}
+    for row in rules():
+        texts.setdefault(row["rule"], {"title": row["title"], "header": "", "entity": ""})[row["on"]] = row["means"]
+    rows = "".join(
+        f"    RuleTexts {{\n        rule: RuleId::{rule},\n" + member("title", row["title"]) + member("on_header", row["header"]) + member("at_entity", row["entity"]) + "    },\n"
+        for rule, row in sorted(texts.items()))
+    return HEAD + rows + "];\n"
 
 
 def main():
     text = written()
     if sys.argv[1:] == ["--check"]:
         same = FILE.read_text(encoding="utf-8") == text
-        print(f"titles: {text.count('RuleId::')} texts, the same as in docs/rules.md" if same else f"{FILE.relative_to(TOP)} isn't as tools/titles.py writes it")
+        print(f"titles: {text.count('RuleId::')} rules, their texts the same as in docs/rules.md" if same else f"{FILE.relative_to(TOP)} isn't as tools/titles.py writes it")
         return 0 if same else 1
     FILE.write_text(text, encoding="utf-8")
     return 0

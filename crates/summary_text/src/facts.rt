@@ -1,6 +1,6 @@
 //! Facts as a sentence.
 
-use crate::phrases::{Phrase, phrases};
+use crate::phrases::{PHRASES, Phrase};
 use crate::visible::{push_quoted, push_visible};
 use report_lines::text_at;
 use serde_json::Value;
@@ -33,7 +33,7 @@ pub fn push_sentence(alloc: Global, out: &mut String, finding: &Value) -> Result
 }
 
 fn phrase_of(ask: &str) -> Option<&'static Phrase> {
-    phrases().iter().find(|phrase| phrase.ask == ask)
+    PHRASES.iter().find(|phrase| phrase.ask == ask)
 }
 
 fn push_fact(alloc: Global, out: &mut String, fact: &Value) -> Result<(), AllocError> {

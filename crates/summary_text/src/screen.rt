@@ -18,6 +18,9 @@ use std::fmt::Write;
 
 /// What a person reads of these counts. `names` are the names of the snapshots' files, by row.
 pub fn screen_of(alloc: Global, counts: &Counts, names: &[Text]) -> Result<String, AllocError> {
+    if counts.lines == 0 {
+        return String::from_str(alloc, "No line came: this is no report.\n");
+    }
     let mut out = String::new(alloc);
     push_snapshots(alloc, &mut out, counts, names)?;
     push_others(alloc, &mut out, counts)?;
@@ -37,9 +40,6 @@ fn push_snapshots(
     counts: &Counts,
     names: &[Text],
 ) -> Result<(), AllocError> {
-    if counts.lines == 0 {
-        return out.push_str("No line came: this is no report.\n");
-    }
     push_counted(alloc, out, counts.accepted, "snapshot", "snapshots")?;
     out.push_str(" accepted, ")?;
     push_grouped(alloc, out, counts.refused)?;
