@@ -13,6 +13,14 @@ fn rule_named(text: &str) -> Option<RuleId> {
     all_rules().iter().copied().find(|rule| rule.name() == text)
 }
 
+// Adds a rule, once however often it is named: each line that tells of a rule is held against all of these.
+fn add_rule(rules: &mut Vec<RuleId>, rule: RuleId) -> Result<(), AllocError> {
+    if !rules.iter().any(|other| *other == rule) {
+        rules.push(rule)?;
+    }
+    Ok(())
+}
+
 /// The rules that the words name, and those of the file that they name.
 pub fn ignored_by(rt: &HostRuntime, matches: &ArgMatches<'_>) -> Result<Vec<RuleId>, Trouble> {
     let mut rules = Vec::new(rt.alloc());
@@ -21,7 +29,7 @@ pub fn ignored_by(rt: &HostRuntime, matches: &ArgMatches<'_>) -> Result<Vec<Rule
             let Some(rule) = rule_named(name) else {
                 return Err(Trouble::refused(rt.alloc(), "--ignore", "no rule"));
             };
-            rules.push(rule).map_err(AllocError::from)?;
+            add_rule(&mut rules, rule)?;
         }
     }
     if let Some(file) = matches.get_str("ignore-file") {
@@ -60,7 +68,7 @@ fn add_lines(
         let Some(rule) = rule_named(word) else {
             return Err(Trouble::refused(rt.alloc(), file, "no rule at the head of a line"));
         };
-        rules.push(rule).map_err(AllocError::from)?;
+        add_rule(rules, rule)?;
     }
     Ok(())
 }
