@@ -1,2 +1,3 @@
-pub mod MarkLemmas
+pub mod NameLemmas
+pub mod StretchLemmas
 pub mod LineLemmas

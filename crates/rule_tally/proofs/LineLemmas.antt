@@ -1,17 +1,15 @@
 -- The tally with one line more.
-use Rattle.std.proofs.Common.{◌≡◌, ◌+◌, ℕ, Bool, true, false, not, List, [], ◌∷◌, ◌++◌, cond, Option, Some, None, refl, sym, ap, ◌∙◌, arith, append-nil}
+use Rattle.std.proofs.Common.{◌≡◌, ◌+◌, ℕ, Bool, true, false, List, [], ◌∷◌, ◌++◌, cond, Option, Some, None, refl, sym, ap, ◌∙◌, arith, append-nil}
 use Rattle.std.specs.List.{count_by, filter_map}
-use Rattle.std.specs.Str.{bytes_eq}
 use Rattle.std.proofs.lemmas.List.Elements.{filter_map-append}
 use Rattle.std.proofs.lemmas.Slice.Eq.{bytes_eq-Decides}
 use Rattle.std.proofs.lemmas.List.Sums.{fold_push, sum_by_push}
-use Rattle.indexmap.specs.IndexMap.{insert_all, insert_entry}
 use Rattle.rule_tally.specs.declared.telling.Telling.{Telling}
 use Rattle.rule_tally.specs.declared.telling.Telling.TheVariants as telling
 use Rattle.rule_tally.specs.declared.tally.Tally.{Tally}
-use Rattle.rule_tally.specs.Names.{Marks}
-use Rattle.rule_tally.specs.Tallies.{Told, changed_place, finds, first_of, found_line, is_closed, is_found, is_last, judged_entity, kept, last_of, marks_of, opened_entity, stretches, tally_of, told, with_line}
-use Rattle.rule_tally.proofs.MarkLemmas.{first_of-push, last_of-push, stretches-push}
+use Rattle.rule_tally.specs.Names.{Marks, marks_of, with_mark}
+use Rattle.rule_tally.specs.Tallies.{Told, changed_place, first_of, found_line, is_closed, is_found, is_last, judged_entity, kept, last_of, opened_entity, stretches, tally_of, told, with_line}
+use Rattle.rule_tally.proofs.StretchLemmas.{first_of-push, last_of-push, stretches-push}
 
 -- equal by fields
 same : {f f1 c c1 s s1 : ℕ} {l l1 : Option (List ℕ)} {e e1 p p1 : Marks} {k k1 : Option (List ℕ)} → f ≡ f1 → c ≡ c1 → s ≡ s1 → l ≡ l1 → e ≡ e1 → p ≡ p1 → k ≡ k1
@@ -33,8 +31,8 @@ counted p xs x passes = rw (sum_by_push (λ y. cond (p y) 1 0) xs x, passes) ref
 uncounted : {A : Type 0} (p : A → Bool) (xs : List A) (x : A) → p x ≡ false → count_by p xs ≡ count_by p (xs ++ x ∷ [])
 uncounted p xs x fails = rw (sum_by_push (λ y. cond (p y) 1 0) xs x, fails) (omega arith)
 
-marked_more : (given : Marks) (name : List ℕ) (mark : Bool) → insert_entry bytes_eq (marks_of given) name mark ≡ marks_of (given ++ (name, mark) ∷ [])
-marked_more given name mark = sym (fold_push (λ (done : Marks) (p : List ℕ × Bool). insert_entry bytes_eq done p.0 p.1) [] given (name, mark))
+marked_more : (given : Marks) (name : List ℕ) (mark : Bool) → with_mark (marks_of given) name mark ≡ marks_of (given ++ (name, mark) ∷ [])
+marked_more given name mark = sym (fold_push (λ (done : Marks) (p : List ℕ × Bool). with_mark done p.0 p.1) [] given (name, mark))
 
 is_same : (last : Option (List ℕ)) (text : List ℕ) → is_last last text ≡ true → last ≡ Some text
 is_same None text h = let clash : false ≡ true = h in cc

@@ -2,8 +2,7 @@
 use Rattle.std.specs.Prelude.{◌+◌, ℕ, Bool, true, false, not, List, [], ◌∷◌, Option, Some, None, if◌then◌else◌, option_map}
 use Rattle.std.specs.List.{count_by, filter_map}
 use Rattle.std.specs.Str.{bytes_eq}
-use Rattle.indexmap.specs.IndexMap.{insert_all, insert_entry}
-use Rattle.rule_tally.specs.Names.{Marks}
+use Rattle.rule_tally.specs.Names.{Marks, marks_of, with_mark}
 use Rattle.rule_tally.specs.declared.telling.Telling.{Telling}
 use Rattle.rule_tally.specs.declared.telling.Telling.TheVariants as telling
 use Rattle.rule_tally.specs.declared.tally.Tally.{Tally}
@@ -51,10 +50,6 @@ abbrev pub changed_place : Telling → Option (List ℕ × Bool)
 changed_place (telling.Finding entity) = None
 changed_place (telling.Opened entity place) = Some (place, true)
 changed_place (telling.Closed place) = Some (place, false)
-
--- each name once, with the mark that it was given last
-abbrev pub marks_of : Marks → Marks
-marks_of given = insert_all bytes_eq [] given
 
 -- ---- stretches of one text
 abbrev pub one_if : Bool → ℕ
@@ -109,7 +104,7 @@ met_entity tally (Some entity) = met tally entity
 
 abbrev pub marked_entity : Marks → Option (List ℕ) → Marks
 marked_entity marks None = marks
-marked_entity marks (Some entity) = insert_entry bytes_eq marks entity true
+marked_entity marks (Some entity) = with_mark marks entity true
 
 abbrev pub kept : Option (List ℕ) → List ℕ → Option (List ℕ)
 kept None line = Some line
@@ -122,12 +117,12 @@ abbrev pub with_opening : Tally → Option (List ℕ) → List ℕ → List ℕ 
 with_opening tally entity place line = record tally {
   findings = tally.findings + 1;
   entities = marked_entity tally.entities entity;
-  places = insert_entry bytes_eq tally.places place true;
+  places = with_mark tally.places place true;
   first = kept tally.first line;
 }
 
 abbrev pub with_closing : Tally → List ℕ → Tally
-with_closing tally place = record tally { closings = tally.closings + 1; places = insert_entry bytes_eq tally.places place false }
+with_closing tally place = record tally { closings = tally.closings + 1; places = with_mark tally.places place false }
 
 abbrev pub with_line : Tally → Telling → List ℕ → Tally
 with_line tally (telling.Finding entity) line = with_finding tally entity line

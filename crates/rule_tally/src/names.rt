@@ -1,20 +1,18 @@
 //! Names, each once, with a mark.
 ghost use Rattle.std.specs.Prelude.{◌≡◌, [], OnOk, length};
 ghost use Rattle.std.specs.List.{count_by};
-ghost use Rattle.std.specs.Str.{bytes_eq};
-ghost use Rattle.indexmap.specs.IndexMap.{insert_entry};
-ghost use Rattle.rule_tally.specs.Names.{is_marked};
+ghost use Rattle.rule_tally.specs.Names.{is_marked, with_mark};
 
-use indexmap::IndexMap;
 use std::alloc::{AllocError, Global};
+use std::collections::BTreeMap;
 use std::marker::Model;
 
-/// Names, each once, with a mark. Contracts see the list of them, in the order in which they came.
+/// Names, each once, with a mark. Contracts see the list of them, in the order of their bytes.
 ///
-/// Names are hashed with a fixed seed.
+/// They are compared and not hashed, so that no names that somebody chose take longer than others.
 #[derive(Drop)]
 pub struct Names {
-    marks: IndexMap<String, bool>,
+    marks: BTreeMap<String, bool>,
 }
 
 impl Model for Names {
@@ -31,13 +29,13 @@ impl Names {
         ensures { result ≡ [] }
     {
         Names {
-            marks: IndexMap::new(alloc),
+            marks: BTreeMap::new(alloc),
         }
     }
 
-    /// Gives a name this mark; one that isn't there comes last.
+    /// Gives a name this mark; one that isn't there comes to its place.
     pub fn mark(&mut self, alloc: Global, name: &str, mark: bool) -> Result<(), AllocError>
-        ensures { OnOk result (self.new ≡ insert_entry bytes_eq self.old name.now mark) }
+        ensures { OnOk result (self.new ≡ with_mark self.old name.now mark) }
     {
         let name = String::from_str(alloc, name)?;
         self.marks.insert(name, mark)?;
@@ -55,14 +53,6 @@ impl Names {
     pub fn marked(&self) -> usize
         ensures { result ≡ count_by is_marked self.now }
     {
-        let mut count = 0;
-        for index in 0..self.marks.len() {
-            if let Some((_, mark)) = self.marks.get_index(index) {
-                if *mark {
-                    count += 1;
-                }
-            }
-        }
-        count
+        self.marks.values().filter(|mark| **mark).count()
     }
 }

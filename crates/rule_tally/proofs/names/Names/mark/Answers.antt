@@ -1,6 +1,6 @@
 use Rattle.std.proofs.Common.{◌∙◌, ap}
 use Rattle.rule_tally.specs.Names.{by_text}
-use Rattle.rule_tally.proofs.MarkLemmas.{by_text-insert}
+use Rattle.rule_tally.proofs.NameLemmas.{by_text-insert}
 use Rattle.rule_tally.proofs.names.Names.mark.Goals as goal
 
 pub returns : goal.returns
