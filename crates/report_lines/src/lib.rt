@@ -16,3 +16,4 @@ mod telling;
 
 pub use line::{LINE_LIMIT, RefusedLine, ReportLine, read_line, tree_of};
 pub use members::{count_at, text_at};
+pub use telling::rule_named;

@@ -12,7 +12,8 @@ use rule_tally::Telling;
 use serde_json::Value;
 use std::alloc::{AllocError, Global};
 
-fn rule_named(text: &str) -> Option<RuleId>
+/// The rule of a text, such as `E001`.
+pub fn rule_named(text: &str) -> Option<RuleId>
     ensures { result ≡ rule_named text.now }
 {
     all_rules().iter().copied().find(|rule| rule.name() == text)

@@ -2,16 +2,13 @@
 
 use crate::trouble::Trouble;
 use clap::ArgMatches;
+use report_lines::rule_named;
 use rt_outside::{ReadEnd, RealFiles, read_whole};
-use rule_table::{RuleId, all_rules};
+use rule_table::RuleId;
 use std::alloc::AllocError;
 
 /// The most bytes that a file of rules may have.
 const FILE_LIMIT: usize = 1_048_576;
-
-fn rule_named(text: &str) -> Option<RuleId> {
-    all_rules().iter().copied().find(|rule| rule.name() == text)
-}
 
 // Adds a rule, once however often it is named: each line that tells of a rule is held against all of these.
 fn add_rule(rules: &mut Vec<RuleId>, rule: RuleId) -> Result<(), AllocError> {
