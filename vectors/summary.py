@@ -2,7 +2,7 @@
 """What `rt_summary --json` counts, against a count by Python: summary.py [SUMMARY [PROGRAM]].
 
 Reports of `check` and `follow` of the examples are counted line by line with Python's json, and compared whole: snapshots, findings,
-entities, places and what stands at the end, by rule. Each report is also spoilt: lines are doubled, dropped, cut, put in another order of
+entities, places, what stands at the end, and the first line with its moment, by rule. Each report is also spoilt: lines are doubled, dropped, cut, put in another order of
 keys or spaced; the last line loses its line feed; lines that are no report's come between. The screen has no line wider than 80 columns,
 and the status is as `--fail-on` says.
 """
@@ -51,6 +51,7 @@ def counted(report, ignored):
     lines = report.split(b"\n")
     if lines[-1] == b"":
         lines.pop()
+    moment = None
     sums = dict(accepted=0, refused=0, trials=0, foreign=0, ignored=0, lines=len(lines), refusals=[], foreign_lines=[])
     rules = {}
     for number, line in enumerate(lines, 1):
@@ -62,23 +63,26 @@ def counted(report, ignored):
         kind, tree = said
         if kind in ("accepted", "trial"):
             sums["accepted" if kind == "accepted" else "trials"] += 1
+            if kind == "accepted":
+                moment = tree["moment"] if whole(tree.get("moment")) else None
         elif kind == "refused":
             sums["refused"] += 1
             sums["refusals"].append((tree["row"], tree["at"], tree["reason"]))
         elif tree["rule"] in ignored:
             sums["ignored"] += 1
         else:
-            rule = rules.setdefault(tree["rule"], dict(findings=0, closings=0, entities=set(), places={}, first=None))
+            rule = rules.setdefault(tree["rule"], dict(findings=0, closings=0, entities=set(), places={}, first=None, moment=None))
             entity = (tree["feed"], tree["id"], tree["occurrence"]) if "id" in tree else (tree["feed"],)
             rule["closings" if kind == "closed" else "findings"] += 1
             if kind != "closed":
-                rule["first"] = rule["first"] or tree
+                if rule["first"] is None:
+                    rule["first"], rule["moment"] = tree, moment
                 if "id" in tree:
                     rule["entities"].add(entity)
             if kind != "finding":
                 rule["places"][entity + (tree["path"],)] = kind == "opened"
     sums["rules"] = {
-        name: (rule["findings"], rule["closings"], len(rule["entities"]), len(rule["places"]), sum(rule["places"].values()), rule["first"])
+        name: (rule["findings"], rule["closings"], len(rule["entities"]), len(rule["places"]), sum(rule["places"].values()), rule["first"], rule["moment"])
         for name, rule in rules.items()
     }
     return sums
@@ -95,7 +99,7 @@ def said(report, ignored):
     tree = json.loads(text)
     sums = {key: tree[key] for key in ("accepted", "refused", "trials", "foreign", "ignored", "lines", "foreign_lines")}
     sums["refusals"] = [(it["row"], it["at"], it["reason"]) for it in tree["refusals"]]
-    sums["rules"] = {it["rule"]: (it["findings"], it["closings"], it["entities"], it["places"], it["standing"], it["first"]) for it in tree["rules"]}
+    sums["rules"] = {it["rule"]: (it["findings"], it["closings"], it["entities"], it["places"], it["standing"], it["first"], it["moment"]) for it in tree["rules"]}
     order = [(it["level"] == "W", -it["findings"], it["rule"]) for it in tree["rules"]]
     return status, sums, order == sorted(order)
 

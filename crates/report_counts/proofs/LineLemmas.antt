@@ -1,29 +1,29 @@
 -- The counts with one line more.
-use Rattle.std.proofs.Common.{◌≡◌, ◌+◌, ◌==◌, ◌&&◌, ℕ, Bool, true, false, not, List, [], ◌∷◌, ◌++◌, cond, length, nat_lt, take, Option, Some, None, refl, sym, ap, ◌∙◌, subst, arith, append-nil, length-append}
-use Rattle.std.specs.List.{cons_option, count_by, filter_map}
+use Rattle.std.proofs.Common.{◌≡◌, ◌+◌, ◌==◌, ℕ, Bool, true, false, List, [], ◌∷◌, ◌++◌, cond, length, Option, Some, None, refl, sym, ap, ◌∙◌, subst, arith, append-nil, length-append}
+use Rattle.std.specs.List.{cons_option, filter_map}
 use Rattle.std.proofs.lemmas.List.Sums.{sum_by_push}
 use Rattle.rule_table.specs.Rules.{rule_number}
 use Rattle.rule_table.specs.declared.rule.RuleId.{RuleId}
-use Rattle.rule_tally.specs.Tallies.{Told, told}
+use Rattle.rule_tally.specs.Tallies.{told}
 use Rattle.rule_tally.specs.declared.tally.Tally.{Tally}
 use Rattle.rule_tally.specs.declared.telling.Telling.{Telling}
 use Rattle.report_lines.specs.declared.line.RefusedLine.{RefusedLine}
 use Rattle.report_lines.specs.declared.line.ReportLine.{ReportLine}
 use Rattle.report_lines.specs.declared.line.ReportLine.TheVariants as line
-use Rattle.report_counts.specs.Counts.{Ignored, counts_by, how_many, is_accepted, is_foreign, is_ignored, is_passed, is_refused, is_trial, number_if, numbers_from, refusal, tells_of, told_of}
+use Rattle.report_counts.specs.Counts.{Ignored, Timed, counts_by, how_many, is_accepted, is_foreign, is_ignored, is_passed, is_refused, is_trial, last_moment, moment_behind, number_if, numbers_from, refusal, tells_of, timed, timed_lines, told_of}
 use Rattle.report_counts.specs.Shown.{shown, shown_more}
 use Rattle.report_counts.specs.Stepping.{HasTaken, IsTold, with_foreign}
-use Rattle.report_counts.specs.Tallies.{Lines, one_more_of, tallies_of}
+use Rattle.report_counts.specs.Tallies.{one_more_of, tallies_of}
 use Rattle.report_counts.specs.declared.counts.Counts.{Counts}
 use Rattle.report_counts.proofs.RuleLemmas.{same_tallies}
 use Rattle.report_counts.proofs.ShownLemmas.{none_given, one_given, one_more}
 
 -- equal by fields
-same : {n n1 a a1 r r1 : ℕ} {rs rs1 : List RefusedLine} {t t1 f f1 : ℕ} {fs fs1 : List ℕ} {i i1 : ℕ} {ts ts1 : List Tally} → n ≡ n1 → a ≡ a1 → r ≡ r1 → rs ≡ rs1 → t ≡ t1 → f ≡ f1 → fs ≡ fs1 → i ≡ i1 → ts ≡ ts1
-    → let x : Counts = record { lines = n; accepted = a; refused = r; refusals = rs; trials = t; foreign = f; strangers = fs; ignored = i; rules = ts } in
-    let y : Counts = record { lines = n1; accepted = a1; refused = r1; refusals = rs1; trials = t1; foreign = f1; strangers = fs1; ignored = i1; rules = ts1 } in
+same : {n n1 a a1 : ℕ} {m m1 : Option ℕ} {r r1 : ℕ} {rs rs1 : List RefusedLine} {t t1 f f1 : ℕ} {fs fs1 : List ℕ} {i i1 : ℕ} {ts ts1 : List Tally} → n ≡ n1 → a ≡ a1 → m ≡ m1 → r ≡ r1 → rs ≡ rs1 → t ≡ t1 → f ≡ f1 → fs ≡ fs1 → i ≡ i1 → ts ≡ ts1
+    → let x : Counts = record { lines = n; accepted = a; moment = m; refused = r; refusals = rs; trials = t; foreign = f; strangers = fs; ignored = i; rules = ts } in
+    let y : Counts = record { lines = n1; accepted = a1; moment = m1; refused = r1; refusals = rs1; trials = t1; foreign = f1; strangers = fs1; ignored = i1; rules = ts1 } in
     x ≡ y
-same en ea er ers et ef efs ei ets = rw (en, ea, er, ers, et, ef, efs, ei, ets) refl
+same en ea em er ers et ef efs ei ets = rw (en, ea, em, er, ers, et, ef, efs, ei, ets) refl
 
 -- the lines are numbered on
 front : (o : Option ℕ) (xs ys zs : List ℕ) → xs ≡ ys ++ zs → cons_option o xs ≡ cons_option o ys ++ zs
@@ -38,6 +38,16 @@ numbers-push said test n (l ∷ ls) text =
     let rest = numbers-push said test (n + 1) ls text in
     front (number_if said (test (said l)) n) _ (numbers_from said (n + 1) test ls) _ (rest ∙ ap (λ k. numbers_from said (n + 1) test ls ++ cons_option (number_if said (test (said text)) k) []) next)
 
+-- the moment of the last accepted snapshot
+moment-push : (said : List ℕ → ReportLine) (m : Option ℕ) (ls : List (List ℕ)) (text : List ℕ) → last_moment said m (ls ++ text ∷ []) ≡ moment_behind (last_moment said m ls) (said text)
+moment-push said m [] text = refl
+moment-push said m (l ∷ ls) text = moment-push said (moment_behind m (said l)) ls text
+
+timed-push : (said : List ℕ → ReportLine) (m : Option ℕ) (ls : List (List ℕ)) (text : List ℕ)
+    → timed_lines said m (ls ++ text ∷ []) ≡ timed_lines said m ls ++ timed (last_moment said m ls) text ∷ []
+timed-push said m [] text = refl
+timed-push said m (l ∷ ls) text = ap (λ rest. timed m l ∷ rest) (timed-push said (moment_behind m (said l)) ls text)
+
 -- ---- one line more, which says this
 module _ (said : List ℕ → ReportLine) (ignored : Ignored) (ls : List (List ℕ)) (text : List ℕ) where
   abbrev now : Counts
@@ -50,7 +60,17 @@ module _ (said : List ℕ → ReportLine) (ignored : Ignored) (ls : List (List �
   len : length ls + 1 ≡ length (ls ++ text ∷ [])
   len = sym (length-append ls (text ∷ []))
 
+  -- the line, with the moment before it
+  abbrev at_last : Timed
+  at_last = timed (last_moment said None ls) text
+
+  told_push : (rule : RuleId) → filter_map (λ (at : Timed). tells_of ignored rule at (said at.text)) (timed_lines said None ls ++ at_last ∷ []) ≡ told_of said ignored (ls ++ text ∷ []) rule
+  told_push rule = ap (λ ts. filter_map (λ (at : Timed). tells_of ignored rule at (said at.text)) ts) (sym (timed-push said None ls text))
+
   module _ (is : ReportLine) (e : said text ≡ is) where
+    moment_more : moment_behind (last_moment said None ls) is ≡ last_moment said None (ls ++ text ∷ [])
+    moment_more = ap (moment_behind (last_moment said None ls)) (sym e) ∙ sym (moment-push said None ls text)
+
     yes_more : (test : ReportLine → Bool) → test is ≡ true → how_many said test ls + 1 ≡ how_many said test (ls ++ text ∷ [])
     yes_more test h = rw (sum_by_push (λ t. cond (test (said t)) 1 0) ls text, e, h) refl
 
@@ -65,9 +85,9 @@ module _ (said : List ℕ → ReportLine) (ignored : Ignored) (ls : List (List �
         let none : cons_option (number_if said (is_foreign (said text)) (1 + length ls)) [] ≡ [] = rw (e, h) refl in
         ap shown (sym (numbers-push said is_foreign 1 ls text ∙ ap (λ zs. numbers_from said 1 is_foreign ls ++ zs) none ∙ append-nil (numbers_from said 1 is_foreign ls)))
 
-    untold : ((rule : RuleId) → tells_of ignored rule text is ≡ None) → tallies_of (told_of said ignored ls) ≡ tallies_of (told_of said ignored (ls ++ text ∷ []))
+    untold : ((rule : RuleId) → tells_of ignored rule at_last is ≡ None) → tallies_of (told_of said ignored ls) ≡ tallies_of (told_of said ignored (ls ++ text ∷ []))
     untold h = same_tallies (told_of said ignored ls) (told_of said ignored (ls ++ text ∷ []))
-        (λ rule. none_given (λ t. tells_of ignored rule t (said t)) ls text (ap (tells_of ignored rule text) e ∙ h rule))
+        (λ rule. none_given (λ (at : Timed). tells_of ignored rule at (said at.text)) (timed_lines said None ls) at_last (ap (tells_of ignored rule at_last) e ∙ h rule) ∙ told_push rule)
 
   -- a line that is no report's
   foreign_number : said text ≡ line.Foreign → shown_more (shown (numbers_from said 1 is_foreign ls)) (length ls + 1) ≡ shown (numbers_from said 1 is_foreign (ls ++ text ∷ []))
@@ -78,39 +98,41 @@ module _ (said : List ℕ → ReportLine) (ignored : Ignored) (ls : List (List �
 
   -- a line of a rule that isn't ignored
   told_more : (rule other : RuleId) (telling : Telling) (b : Bool) → (rule_number other == rule_number rule) ≡ b → is_ignored ignored rule ≡ false → said text ≡ line.Told rule telling
-      → cond b (told_of said ignored ls other ++ told telling text ∷ []) (told_of said ignored ls other) ≡ told_of said ignored (ls ++ text ∷ []) other
+      → cond b (told_of said ignored ls other ++ told telling (last_moment said None ls) text ∷ []) (told_of said ignored ls other) ≡ told_of said ignored (ls ++ text ∷ []) other
   told_more rule other telling true is counts e =
-      one_given (λ t. tells_of ignored other t (said t)) ls text (told telling text) (ap (tells_of ignored other text) e ∙ rw (counts, is) refl)
-  told_more rule other telling false is counts e = none_given (λ t. tells_of ignored other t (said t)) ls text (ap (tells_of ignored other text) e ∙ rw (counts, is) refl)
+      one_given (λ (at : Timed). tells_of ignored other at (said at.text)) (timed_lines said None ls) at_last (told telling (last_moment said None ls) text) (ap (tells_of ignored other at_last) e ∙ rw (counts, is) refl)
+      ∙ told_push other
+  told_more rule other telling false is counts e =
+      none_given (λ (at : Timed). tells_of ignored other at (said at.text)) (timed_lines said None ls) at_last (ap (tells_of ignored other at_last) e ∙ rw (counts, is) refl) ∙ told_push other
 
-  passed_none : (rule other : RuleId) (telling : Telling) → is_ignored ignored rule ≡ true → tells_of ignored other text (line.Told rule telling) ≡ None
+  passed_none : (rule other : RuleId) (telling : Telling) → is_ignored ignored rule ≡ true → tells_of ignored other at_last (line.Told rule telling) ≡ None
   passed_none rule other telling h = rw h refl
 
   told_line : (rule : RuleId) (telling : Telling) (after : Counts) (b : Bool) → is_ignored ignored rule ≡ b → said text ≡ line.Told rule telling → IsTold b begun rule telling text after → after ≡ now
   told_line rule telling after true h e t =
-      t ∙ same len (no_more _ e is_accepted refl) (no_more _ e is_refused refl) (no_refusal _ e refl) (no_more _ e is_trial refl) (no_more _ e is_foreign refl) (no_number _ e refl)
+      t ∙ same len (no_more _ e is_accepted refl) (moment_more _ e) (no_more _ e is_refused refl) (no_refusal _ e refl) (no_more _ e is_trial refl) (no_more _ e is_foreign refl) (no_number _ e refl)
       (yes_more _ e (is_passed ignored) h) (untold _ e (λ other. passed_none rule other telling h))
   told_line rule telling after false h e t =
       let tallied = t.1 (told_of said ignored ls) refl in
-      let joined = same_tallies (one_more_of (told_of said ignored ls) rule (told telling text)) (told_of said ignored (ls ++ text ∷ []))
+      let joined = same_tallies (one_more_of (told_of said ignored ls) rule (told telling (last_moment said None ls) text)) (told_of said ignored (ls ++ text ∷ []))
       (λ other. told_more rule other telling (rule_number other == rule_number rule) refl h e) in
-      t.0 ∙ same len (no_more _ e is_accepted refl) (no_more _ e is_refused refl) (no_refusal _ e refl) (no_more _ e is_trial refl) (no_more _ e is_foreign refl) (no_number _ e refl)
+      t.0 ∙ same len (no_more _ e is_accepted refl) (moment_more _ e) (no_more _ e is_refused refl) (no_refusal _ e refl) (no_more _ e is_trial refl) (no_more _ e is_foreign refl) (no_number _ e refl)
       (no_more _ e (is_passed ignored) h) (tallied ∙ joined)
 
   by_said : (is : ReportLine) (after : Counts) → said text ≡ is → HasTaken ignored begun is text after → after ≡ now
-  by_said line.Accepted after e t =
-      t ∙ same len (yes_more _ e is_accepted refl) (no_more _ e is_refused refl) (no_refusal _ e refl) (no_more _ e is_trial refl) (no_more _ e is_foreign refl) (no_number _ e refl)
+  by_said (line.Accepted own) after e t =
+      t ∙ same len (yes_more _ e is_accepted refl) (moment_more _ e) (no_more _ e is_refused refl) (no_refusal _ e refl) (no_more _ e is_trial refl) (no_more _ e is_foreign refl) (no_number _ e refl)
       (no_more _ e (is_passed ignored) refl) (untold _ e (λ rule. refl))
   by_said (line.Refused r) after e t =
-      t ∙ same len (no_more _ e is_accepted refl) (yes_more _ e is_refused refl)
+      t ∙ same len (no_more _ e is_accepted refl) (moment_more _ e) (yes_more _ e is_refused refl)
       (one_more 10 (filter_map (λ x. refusal (said x)) ls) r ∙ ap shown (one_given (λ x. refusal (said x)) ls text r (ap refusal e))) (no_more _ e is_trial refl) (no_more _ e is_foreign refl)
       (no_number _ e refl) (no_more _ e (is_passed ignored) refl) (untold _ e (λ rule. refl))
   by_said (line.Told rule telling) after e t = told_line rule telling after (is_ignored ignored rule) refl e t
   by_said line.Trial after e t =
-      t ∙ same len (no_more _ e is_accepted refl) (no_more _ e is_refused refl) (no_refusal _ e refl) (yes_more _ e is_trial refl) (no_more _ e is_foreign refl) (no_number _ e refl)
+      t ∙ same len (no_more _ e is_accepted refl) (moment_more _ e) (no_more _ e is_refused refl) (no_refusal _ e refl) (yes_more _ e is_trial refl) (no_more _ e is_foreign refl) (no_number _ e refl)
       (no_more _ e (is_passed ignored) refl) (untold _ e (λ rule. refl))
   by_said line.Foreign after e t =
-      t ∙ same len (no_more _ e is_accepted refl) (no_more _ e is_refused refl) (no_refusal _ e refl) (no_more _ e is_trial refl) (yes_more _ e is_foreign refl) (foreign_number e)
+      t ∙ same len (no_more _ e is_accepted refl) (moment_more _ e) (no_more _ e is_refused refl) (no_refusal _ e refl) (no_more _ e is_trial refl) (yes_more _ e is_foreign refl) (foreign_number e)
       (no_more _ e (is_passed ignored) refl) (untold _ e (λ rule. refl))
 
   -- in the code

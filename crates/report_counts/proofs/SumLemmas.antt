@@ -1,20 +1,18 @@
 -- Each line counts once.
-use Rattle.std.proofs.Common.{◌≡◌, ◌+◌, ◌==◌, ℕ, Bool, true, false, not, List, [], ◌∷◌, cond, length, map, Option, Some, None, refl, sym, ap, ◌∙◌, arith}
-use Rattle.std.specs.List.{cons_option, count_by, filter_map, sum_by}
+use Rattle.std.proofs.Common.{◌≡◌, ◌+◌, ◌==◌, ℕ, Bool, true, false, not, List, [], ◌∷◌, cond, length, map, Option, Some, None, refl, sym, ◌∙◌, arith}
+use Rattle.std.specs.List.{cons_option, sum_by}
 use Rattle.std.proofs.lemmas.List.Sums.{sum_by-cons}
 use Rattle.rule_table.specs.Rules.{rule_number}
 use Rattle.rule_table.specs.Table.{all_rules}
 use Rattle.rule_table.specs.declared.rule.RuleId.{RuleId}
 use Rattle.rule_table.specs.declared.rule.RuleId.TheVariants.{E001}
 use Rattle.rule_tally.specs.Tallies.{Told, is_closed, is_found, tally_of, told}
-use Rattle.rule_tally.specs.declared.tally.Tally.{Tally}
 use Rattle.rule_tally.specs.declared.telling.Telling.{Telling}
 use Rattle.report_lines.specs.declared.line.ReportLine.{ReportLine}
 use Rattle.report_lines.specs.declared.line.ReportLine.TheVariants as line
-use Rattle.report_counts.specs.Counts.{Ignored, counts_by, how_many, is_accepted, is_foreign, is_ignored, is_passed, is_refused, is_trial, tells_of, told_of}
+use Rattle.report_counts.specs.Counts.{Ignored, Timed, counts_by, how_many, is_accepted, is_foreign, is_ignored, is_passed, is_refused, is_trial, moment_behind, tells_of, timed, timed_lines, told_in}
 use Rattle.report_counts.specs.Laws.{counted, lines_in, lines_of_rules}
-use Rattle.report_counts.specs.Tallies.{Lines, tallies_of}
-use Rattle.report_counts.specs.declared.counts.Counts.{Counts}
+use Rattle.report_counts.specs.Tallies.{tallies_of}
 
 -- a line of a rule is a finding, an opening or a closing
 one_is : (t : Told) (b : Bool) → is_found t ≡ b → cond (is_found t) 1 0 + cond (not (is_found t)) 1 0 ≡ 1
@@ -64,17 +62,17 @@ abbrev is_told : Ignored → ReportLine → Bool
 is_told ignored (line.Told rule telling) = not (is_ignored ignored rule)
 is_told ignored _ = false
 
-module _ (ignored : Ignored) (text : List ℕ) where
+module _ (ignored : Ignored) (at : Timed) where
   abbrev hit : ReportLine → RuleId → ℕ
-  hit is rule = some_in (tells_of ignored rule text is)
+  hit is rule = some_in (tells_of ignored rule at is)
 
   told_hits : (rule : RuleId) (telling : Telling) (b : Bool) → is_ignored ignored rule ≡ b → sum_by (hit (line.Told rule telling)) all_rules ≡ cond (not b) 1 0
   told_hits rule telling true h = same_sum (hit (line.Told rule telling)) (λ other. 0) (λ other. rw h refl) all_rules ∙ none_sum all_rules
   told_hits rule telling false h =
-      same_sum (hit (line.Told rule telling)) (λ other. cond (rule_number other == rule_number rule) 1 0) (λ other. rw h (hit_at (rule_number other == rule_number rule) (told telling text))) all_rules ∙ one_rule rule
+      same_sum (hit (line.Told rule telling)) (λ other. cond (rule_number other == rule_number rule) 1 0) (λ other. rw h (hit_at (rule_number other == rule_number rule) (told telling at.moment at.text))) all_rules ∙ one_rule rule
 
   hits : (is : ReportLine) → sum_by (hit is) all_rules ≡ cond (is_told ignored is) 1 0
-  hits line.Accepted = none_sum all_rules
+  hits (line.Accepted moment) = none_sum all_rules
   hits (line.Refused r) = none_sum all_rules
   hits (line.Told rule telling) = told_hits rule telling (is_ignored ignored rule) refl
   hits line.Trial = none_sum all_rules
@@ -87,29 +85,30 @@ passed_or false = refl
 
 one_kind : (ignored : Ignored) (is : ReportLine)
     → cond (is_passed ignored is) 1 0 + (cond (is_accepted is) 1 0 + cond (is_refused is) 1 0 + cond (is_trial is) 1 0 + cond (is_foreign is) 1 0 + cond (is_told ignored is) 1 0) ≡ 1
-one_kind ignored line.Accepted = refl
+one_kind ignored (line.Accepted moment) = refl
 one_kind ignored (line.Refused r) = refl
 one_kind ignored (line.Told rule telling) = let one = passed_or (is_ignored ignored rule) in omega (arith, one)
 one_kind ignored line.Trial = refl
 one_kind ignored line.Foreign = refl
 
 module _ (said : List ℕ → ReportLine) (ignored : Ignored) (rules : List RuleId) where
-  abbrev of_rules : List (List ℕ) → ℕ
-  of_rules lines = lines_of_rules (map (λ rule. tally_of (told_of said ignored lines rule)) rules)
+  abbrev of_rules : Option ℕ → List (List ℕ) → ℕ
+  of_rules moment lines = lines_of_rules (map (λ rule. tally_of (told_in said ignored (timed_lines said moment lines) rule)) rules)
 
   kind_more : (test : ReportLine → Bool) (text : List ℕ) (lines : List (List ℕ)) → how_many said test (text ∷ lines) ≡ cond (test (said text)) 1 0 + how_many said test lines
   kind_more test text lines = sum_by-cons (λ t. cond (test (said t)) 1 0) text lines
 
-rules_more : (said : List ℕ → ReportLine) (ignored : Ignored) (text : List ℕ) (lines : List (List ℕ)) (rules : List RuleId)
-    → of_rules said ignored rules (text ∷ lines) ≡ sum_by (hit ignored text (said text)) rules + of_rules said ignored rules lines
-rules_more said ignored text lines [] = refl
-rules_more said ignored text lines (rule ∷ rules) =
-    let rest = rules_more said ignored text lines rules in
-    let before = told_of said ignored lines rule in
-    let o = tells_of ignored rule text (said text) in
-    let a = sum_by-cons lines_in (tally_of (cons_option o before)) (map (λ r. tally_of (told_of said ignored (text ∷ lines) r)) rules) in
-    let b = sum_by-cons lines_in (tally_of before) (map (λ r. tally_of (told_of said ignored lines r)) rules) in
-    let c = sum_by-cons (hit ignored text (said text)) rule rules in
+rules_more : (said : List ℕ → ReportLine) (ignored : Ignored) (moment : Option ℕ) (text : List ℕ) (lines : List (List ℕ)) (rules : List RuleId)
+    → of_rules said ignored rules moment (text ∷ lines) ≡ sum_by (hit ignored (timed moment text) (said text)) rules + of_rules said ignored rules (moment_behind moment (said text)) lines
+rules_more said ignored moment text lines [] = refl
+rules_more said ignored moment text lines (rule ∷ rules) =
+    let rest = rules_more said ignored moment text lines rules in
+    let behind = timed_lines said (moment_behind moment (said text)) lines in
+    let before = told_in said ignored behind rule in
+    let o = tells_of ignored rule (timed moment text) (said text) in
+    let a = sum_by-cons lines_in (tally_of (cons_option o before)) (map (λ r. tally_of (told_in said ignored (timed moment text ∷ behind) r)) rules) in
+    let b = sum_by-cons lines_in (tally_of before) (map (λ r. tally_of (told_in said ignored behind r)) rules) in
+    let c = sum_by-cons (hit ignored (timed moment text) (said text)) rule rules in
     let longer = one_longer o before in
     let all = all_are (cons_option o before) in
     let some = all_are before in
@@ -117,30 +116,30 @@ rules_more said ignored text lines (rule ∷ rules) =
 
 -- where each line is of one of these rules at most
 module _ (said : List ℕ → ReportLine) (ignored : Ignored) (rules : List RuleId)
-    (once : (text : List ℕ) (is : ReportLine) → sum_by (hit ignored text is) rules ≡ cond (is_told ignored is) 1 0) where
-  sum_over : (lines : List (List ℕ))
-      → how_many said (is_passed ignored) lines + (how_many said is_accepted lines + how_many said is_refused lines + how_many said is_trial lines + how_many said is_foreign lines + of_rules said ignored rules lines)
+    (once : (at : Timed) (is : ReportLine) → sum_by (hit ignored at is) rules ≡ cond (is_told ignored is) 1 0) where
+  sum_over : (moment : Option ℕ) (lines : List (List ℕ))
+      → how_many said (is_passed ignored) lines + (how_many said is_accepted lines + how_many said is_refused lines + how_many said is_trial lines + how_many said is_foreign lines + of_rules said ignored rules moment lines)
       ≡ length lines
-  sum_over [] = none_over rules
+  sum_over moment [] = none_over rules
     where
-      none_over : (rs : List RuleId) → 0 + (0 + 0 + 0 + 0 + of_rules said ignored rs []) ≡ 0
+      none_over : (rs : List RuleId) → 0 + (0 + 0 + 0 + 0 + of_rules said ignored rs moment []) ≡ 0
       none_over [] = refl
       none_over (r ∷ rs) =
           let rest = none_over rs in
-          let a = sum_by-cons lines_in (tally_of []) (map (λ x. tally_of (told_of said ignored [] x)) rs) in
+          let a = sum_by-cons lines_in (tally_of []) (map (λ x. tally_of (told_in said ignored [] x)) rs) in
           omega (arith, rest, a)
-  sum_over (text ∷ lines) =
-      let rest = sum_over lines in
+  sum_over moment (text ∷ lines) =
+      let rest = sum_over (moment_behind moment (said text)) lines in
       let i = kind_more said ignored rules (is_passed ignored) text lines in
       let a = kind_more said ignored rules is_accepted text lines in
       let r = kind_more said ignored rules is_refused text lines in
       let t = kind_more said ignored rules is_trial text lines in
       let f = kind_more said ignored rules is_foreign text lines in
-      let more = rules_more said ignored text lines rules in
-      let here = once text (said text) in
+      let more = rules_more said ignored moment text lines rules in
+      let here = once (timed moment text) (said text) in
       let one = one_kind ignored (said text) in
       omega (arith, rest, i, a, r, t, f, more, here, one)
 
 pub sum_is : (said : List ℕ → ReportLine) (ignored : Ignored) (lines : List (List ℕ)) → (counts_by said ignored lines).ignored + counted (counts_by said ignored lines) ≡ length lines
 unfolding tallies_of
-sum_is said ignored lines = sum_over said ignored all_rules (λ text is. hits ignored text is) lines
+sum_is said ignored lines = sum_over said ignored all_rules (λ at is. hits ignored at is) None lines

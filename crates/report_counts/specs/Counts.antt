@@ -4,7 +4,6 @@ use Rattle.std.specs.List.{cons_option, count_by, filter_map, list_any}
 use Rattle.rule_table.specs.Rules.{rule_number}
 use Rattle.rule_table.specs.declared.rule.RuleId.{RuleId}
 use Rattle.rule_tally.specs.Tallies.{Told, told}
-use Rattle.rule_tally.specs.declared.telling.Telling.{Telling}
 use Rattle.report_lines.specs.Lines.{line_said}
 use Rattle.report_lines.specs.declared.line.RefusedLine.{RefusedLine}
 use Rattle.report_lines.specs.declared.line.ReportLine.{ReportLine}
@@ -19,9 +18,23 @@ Ignored = List RuleId
 abbrev pub is_ignored : Ignored → RuleId → Bool
 is_ignored ignored rule = list_any (λ other. rule_number other == rule_number rule) ignored
 
+-- ---- moments
+-- behind a line that says this: that of an accepted snapshot is its own, where its line tells it
+abbrev pub moment_behind : Option ℕ → ReportLine → Option ℕ
+moment_behind moment (line.Accepted own) = own
+moment_behind moment _ = moment
+
+-- a line, and the moment of the last accepted snapshot before it
+pub record Timed : Type 0 where
+  pub moment : Option ℕ
+  pub text : List ℕ
+
+abbrev pub timed : Option ℕ → List ℕ → Timed
+timed moment text = record { moment = moment; text = text }
+
 -- ---- kinds of lines
 abbrev pub is_accepted : ReportLine → Bool
-is_accepted line.Accepted = true
+is_accepted (line.Accepted moment) = true
 is_accepted _ = false
 
 abbrev pub refusal : ReportLine → Option RefusedLine
@@ -46,9 +59,9 @@ is_passed ignored (line.Told rule telling) = is_ignored ignored rule
 is_passed ignored _ = false
 
 -- it tells of this rule, which isn't ignored
-abbrev pub tells_of : Ignored → RuleId → List ℕ → ReportLine → Option Told
-tells_of ignored rule text (line.Told other telling) = if not (is_ignored ignored other) && (rule_number rule == rule_number other) then Some (told telling text) else None
-tells_of ignored rule text _ = None
+abbrev pub tells_of : Ignored → RuleId → Timed → ReportLine → Option Told
+tells_of ignored rule at (line.Told other telling) = if not (is_ignored ignored other) && (rule_number rule == rule_number other) then Some (told telling at.moment at.text) else None
+tells_of ignored rule at _ = None
 
 -- ---- all lines, each of which says what `said` tells
 module _ (said : List ℕ → ReportLine) where
@@ -63,13 +76,27 @@ module _ (said : List ℕ → ReportLine) where
   numbers_from n test [] = []
   numbers_from n test (text ∷ lines) = cons_option (number_if (test (said text)) n) (numbers_from (n + 1) test lines)
 
+  -- the moment behind all lines, of which the first has this one
+  abbrev pub last_moment : Option ℕ → List (List ℕ) → Option ℕ
+  last_moment moment [] = moment
+  last_moment moment (text ∷ lines) = last_moment (moment_behind moment (said text)) lines
+
+  abbrev pub timed_lines : Option ℕ → List (List ℕ) → List Timed
+  timed_lines moment [] = []
+  timed_lines moment (text ∷ lines) = timed moment text ∷ timed_lines (moment_behind moment (said text)) lines
+
+  abbrev pub told_in : Ignored → List Timed → Lines
+  told_in ignored lines rule = filter_map (λ (at : Timed). tells_of ignored rule at (said at.text)) lines
+
+  -- what tells of each rule; before the first snapshot no moment is known
   abbrev pub told_of : Ignored → List (List ℕ) → Lines
-  told_of ignored lines rule = filter_map (λ text. tells_of ignored rule text (said text)) lines
+  told_of ignored lines = told_in ignored (timed_lines None lines)
 
   abbrev pub counts_by : Ignored → List (List ℕ) → Counts
   counts_by ignored lines = record {
     lines = length lines;
     accepted = how_many is_accepted lines;
+    moment = last_moment None lines;
     refused = how_many is_refused lines;
     refusals = shown (filter_map (λ text. refusal (said text)) lines);
     trials = how_many is_trial lines;

@@ -1,5 +1,5 @@
 -- Whether a report fails. (This profile; `rt_command` answers 1 where an error is found or a snapshot is refused.)
-use Rattle.std.specs.Prelude.{ℕ, ◌==◌, ◌&&◌, ◌||◌, Bool, true, false, not, List, bytes_eq, codes, nat_lt}
+use Rattle.std.specs.Prelude.{◌==◌, ◌&&◌, ◌||◌, Bool, false, not, bytes_eq, codes, nat_lt}
 use Rattle.std.specs.List.{list_any}
 use Rattle.rule_table.specs.Rules.{level}
 use Rattle.rule_table.specs.Table.{all_rules}

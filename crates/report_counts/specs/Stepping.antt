@@ -2,7 +2,6 @@
 use Rattle.std.specs.Prelude.{◌≡◌, ℕ, ◌+◌, Bool, true, false, List}
 use Rattle.rule_table.specs.declared.rule.RuleId.{RuleId}
 use Rattle.rule_tally.specs.Tallies.{told}
-use Rattle.rule_tally.specs.declared.tally.Tally.{Tally}
 use Rattle.rule_tally.specs.declared.telling.Telling.{Telling}
 use Rattle.report_lines.specs.declared.line.RefusedLine.{RefusedLine}
 use Rattle.report_lines.specs.declared.line.ReportLine.{ReportLine}
@@ -22,7 +21,7 @@ with_foreign counts = record counts { foreign = counts.foreign + 1; strangers = 
 -- the tallies take a line that tells of a rule, whatever lines came before
 abbrev pub HasTallied : Counts → RuleId → Telling → List ℕ → Counts → Type 0
 HasTallied old rule telling text new =
-    (new ≡ record old { rules = new.rules }) × ((before : Lines) → old.rules ≡ tallies_of before → new.rules ≡ tallies_of (one_more_of before rule (told telling text)))
+    (new ≡ record old { rules = new.rules }) × ((before : Lines) → old.rules ≡ tallies_of before → new.rules ≡ tallies_of (one_more_of before rule (told telling old.moment text)))
 
 abbrev pub IsTold : Bool → Counts → RuleId → Telling → List ℕ → Counts → Type 0
 IsTold true old rule telling text new = new ≡ record old { ignored = old.ignored + 1 }
@@ -32,7 +31,7 @@ abbrev pub HasTold : Ignored → Counts → RuleId → Telling → List ℕ → 
 HasTold ignored old rule telling text new = IsTold (is_ignored ignored rule) old rule telling text new
 
 abbrev pub HasTaken : Ignored → Counts → ReportLine → List ℕ → Counts → Type 0
-HasTaken ignored old line.Accepted text new = new ≡ record old { accepted = old.accepted + 1 }
+HasTaken ignored old (line.Accepted moment) text new = new ≡ record old { accepted = old.accepted + 1; moment = moment }
 HasTaken ignored old (line.Refused refusal) text new = new ≡ with_refused old refusal
 HasTaken ignored old (line.Told rule telling) text new = HasTold ignored old rule telling text new
 HasTaken ignored old line.Trial text new = new ≡ record old { trials = old.trials + 1 }

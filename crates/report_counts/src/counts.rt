@@ -20,6 +20,8 @@ pub struct Counts {
     pub lines: u64,
     /// Snapshots.
     pub accepted: u64,
+    /// When the last of them was judged, in POSIX seconds; none where its line doesn't tell it, or none came.
+    pub moment: Option<u64>,
     pub refused: u64,
     /// The first of the refused.
     pub refusals: Items<RefusedLine>,
@@ -43,6 +45,7 @@ impl Counts {
         Ok(Counts {
             lines: 0,
             accepted: 0,
+            moment: None,
             refused: 0,
             refusals: Items::new(alloc),
             trials: 0,
@@ -73,8 +76,9 @@ impl Counts {
         ensures { OnOk result (HasTaken ignored.now self.old said line.now self.new) }
     {
         match said {
-            ReportLine::Accepted => {
+            ReportLine::Accepted(moment) => {
                 self.accepted = one_more(self.accepted)?;
+                self.moment = moment;
                 Ok(())
             }
             ReportLine::Refused(refusal) => self.refuse(refusal),
@@ -115,7 +119,7 @@ impl Counts {
             self.ignored = one_more(self.ignored)?;
             return Ok(());
         }
-        self.rules.take(alloc, rule, telling, line)
+        self.rules.take(alloc, rule, telling, self.moment, line)
     }
 }
 

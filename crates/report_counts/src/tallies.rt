@@ -41,20 +41,21 @@ impl Tallies {
         Ok(Tallies { tallies })
     }
 
-    /// Takes one line more, which tells this of the rule.
+    /// Takes one line more, which tells this of the rule, at the moment of the snapshot that it tells of.
     pub fn take(
         &mut self,
         alloc: Global,
         rule: RuleId,
         telling: &Telling,
+        moment: Option<u64>,
         line: &[u8],
     ) -> Result<(), AllocError>
-        ensures { OnOk result ((before : RuleId → List Told) → self.old ≡ tallies_of before → self.new ≡ tallies_of (one_more_of before rule (told telling.now line.now))) }
+        ensures { OnOk result ((before : RuleId → List Told) → self.old ≡ tallies_of before → self.new ≡ tallies_of (one_more_of before rule (told telling.now moment line.now))) }
     {
         let index = rule.number() as usize;
         if index < self.tallies.len() {
             let tally = &mut self.tallies[index];
-            return tally.take(alloc, telling, line);
+            return tally.take(alloc, telling, moment, line);
         }
         Ok(())
     }

@@ -70,9 +70,13 @@ refused_at row at reason = line.Refused (record { row = row; at = at; reason = r
 abbrev pub refused_line : Data → Option ReportLine
 refused_line d = option_and_then (λ row. option_and_then (λ at. option_map (refused_at row at) (text_at (codes "reason") d)) (count_at (codes "at") d)) (count_at (codes "row") d)
 
+-- the moment at which it is judged is told where it is a whole number
+abbrev pub accepted_line : Data → ReportLine
+accepted_line d = line.Accepted (count_at (codes "moment") d)
+
 -- ---- a line
 abbrev pub named_line : Data → LineName → Option ReportLine
-named_line d name.Accepted = Some line.Accepted
+named_line d name.Accepted = Some (accepted_line d)
 named_line d name.Refused = refused_line d
 named_line d name.Finding = rule_line name.Finding d
 named_line d name.Opened = rule_line name.Opened d

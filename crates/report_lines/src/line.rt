@@ -26,8 +26,8 @@ pub struct RefusedLine {
 /// What a line of a report says, as far as a summary asks.
 #[derive(Drop)]
 pub enum ReportLine {
-    /// A snapshot is accepted.
-    Accepted,
+    /// A snapshot is accepted, and judged at this moment, in POSIX seconds; none where the line tells no whole number of 64 bits.
+    Accepted(Option<u64>),
     Refused(RefusedLine),
     /// It tells this of a rule.
     Told(RuleId, Telling),
@@ -97,7 +97,7 @@ fn named_line(
     ensures { IfOk result (λ line. line ≡ named_line (view value.now) name) }
 {
     match name {
-        LineName::Accepted => Ok(Some(ReportLine::Accepted)),
+        LineName::Accepted => Ok(Some(ReportLine::Accepted(count_at(value, "moment")))),
         LineName::Refused => refused_line(alloc, value),
         LineName::Trial => Ok(Some(ReportLine::Trial)),
         _ => rule_line(alloc, name, value),

@@ -3,17 +3,22 @@ use Rattle.std.specs.Prelude.{◌+◌, ℕ, Bool, true, false, not, List, [], �
 use Rattle.std.specs.List.{count_by, filter_map}
 use Rattle.std.specs.Str.{bytes_eq}
 use Rattle.rule_tally.specs.Names.{Marks, marks_of, with_mark}
+use Rattle.rule_tally.specs.declared.first_line.FirstLine.{FirstLine}
 use Rattle.rule_tally.specs.declared.telling.Telling.{Telling}
 use Rattle.rule_tally.specs.declared.telling.Telling.TheVariants as telling
 use Rattle.rule_tally.specs.declared.tally.Tally.{Tally}
 
--- a line of the rule, with what it tells
+-- a line of the rule, with what it tells, and with the moment of the snapshot that it tells of, where that is known
 pub record Told : Type 0 where
   pub telling : Telling
+  pub moment : Option ℕ
   pub line : List ℕ
 
-abbrev pub told : Telling → List ℕ → Told
-told telling line = record { telling = telling; line = line }
+abbrev pub told : Telling → Option ℕ → List ℕ → Told
+told telling moment line = record { telling = telling; moment = moment; line = line }
+
+abbrev pub first_line : Option ℕ → List ℕ → FirstLine
+first_line moment line = record { moment = moment; line = line }
 
 -- ---- what one line tells
 -- that the rule breaks at a place, or came to
@@ -29,9 +34,9 @@ is_found t = finds t.telling
 abbrev pub is_closed : Told → Bool
 is_closed t = not (finds t.telling)
 
--- the line of a finding or opening
-abbrev pub found_line : Told → Option (List ℕ)
-found_line t = if is_found t then Some t.line else None
+-- the line of a finding or opening, with its moment: of `follow` the one at which the rule came to break there
+abbrev pub found_line : Told → Option FirstLine
+found_line t = if is_found t then Some (first_line t.moment t.line) else None
 
 -- the entity of a line of `check`
 abbrev pub judged_entity : Telling → Option (List ℕ)
@@ -73,9 +78,9 @@ abbrev pub last_of : List (List ℕ) → Option (List ℕ)
 last_of [] = None
 last_of (text ∷ texts) = Some (last_behind text texts)
 
-abbrev pub first_of : List (List ℕ) → Option (List ℕ)
+abbrev pub first_of : List FirstLine → Option FirstLine
 first_of [] = None
-first_of (text ∷ texts) = Some text
+first_of (line ∷ lines) = Some line
 
 -- ---- all lines of a rule, in their order
 abbrev pub tally_of : List Told → Tally
@@ -106,25 +111,25 @@ abbrev pub marked_entity : Marks → Option (List ℕ) → Marks
 marked_entity marks None = marks
 marked_entity marks (Some entity) = with_mark marks entity true
 
-abbrev pub kept : Option (List ℕ) → List ℕ → Option (List ℕ)
-kept None line = Some line
-kept (Some first) line = Some first
+abbrev pub kept : Option FirstLine → Option ℕ → List ℕ → Option FirstLine
+kept None moment line = Some (first_line moment line)
+kept (Some first) moment line = Some first
 
-abbrev pub with_finding : Tally → Option (List ℕ) → List ℕ → Tally
-with_finding tally entity line = record (met_entity tally entity) { findings = tally.findings + 1; first = kept tally.first line }
+abbrev pub with_finding : Tally → Option (List ℕ) → Option ℕ → List ℕ → Tally
+with_finding tally entity moment line = record (met_entity tally entity) { findings = tally.findings + 1; first = kept tally.first moment line }
 
-abbrev pub with_opening : Tally → Option (List ℕ) → List ℕ → List ℕ → Tally
-with_opening tally entity place line = record tally {
+abbrev pub with_opening : Tally → Option (List ℕ) → List ℕ → Option ℕ → List ℕ → Tally
+with_opening tally entity place moment line = record tally {
   findings = tally.findings + 1;
   entities = marked_entity tally.entities entity;
   places = with_mark tally.places place true;
-  first = kept tally.first line;
+  first = kept tally.first moment line;
 }
 
 abbrev pub with_closing : Tally → List ℕ → Tally
 with_closing tally place = record tally { closings = tally.closings + 1; places = with_mark tally.places place false }
 
-abbrev pub with_line : Tally → Telling → List ℕ → Tally
-with_line tally (telling.Finding entity) line = with_finding tally entity line
-with_line tally (telling.Opened entity place) line = with_opening tally entity place line
-with_line tally (telling.Closed place) line = with_closing tally place
+abbrev pub with_line : Tally → Telling → Option ℕ → List ℕ → Tally
+with_line tally (telling.Finding entity) moment line = with_finding tally entity moment line
+with_line tally (telling.Opened entity place) moment line = with_opening tally entity place moment line
+with_line tally (telling.Closed place) moment line = with_closing tally place

@@ -7,15 +7,18 @@
 //! - `counting`: one more
 //! - `telling`: what a line tells of its rule
 //! - `names`: names, each once, with a mark
+//! - `first_line`: the first line of a rule
 //! - `tally`: the lines of one rule
 #![tactic(auto)]
 
 mod counting;
+mod first_line;
 mod names;
 mod tally;
 mod telling;
 
 pub use counting::one_more;
+pub use first_line::FirstLine;
 pub use names::Names;
 pub use tally::Tally;
 pub use telling::Telling;

@@ -3,6 +3,7 @@ ghost use Rattle.std.specs.Prelude.{◌≡◌, ◌++◌, ◌∷◌, [], OnOk, Li
 ghost use Rattle.rule_tally.specs.Tallies.{Told, is_last, kept, marked_entity, met, met_entity, tally_of, told, with_closing, with_finding, with_line, with_opening};
 
 use crate::counting::one_more;
+use crate::first_line::FirstLine;
 use crate::names::Names;
 use crate::telling::Telling;
 use feed_values::{Items, Text};
@@ -24,7 +25,7 @@ pub struct Tally {
     /// The places at which it opened or closed, marked where it stands.
     pub places: Names,
     /// The first line that is a finding or an opening.
-    pub first: Option<Items<u8>>,
+    pub first: Option<FirstLine>,
 }
 
 impl Tally {
@@ -43,31 +44,50 @@ impl Tally {
         }
     }
 
-    /// Takes one line more, which tells this of the rule. After a fault it is no tally of these lines.
-    pub fn take(&mut self, alloc: Global, telling: &Telling, line: &[u8]) -> Result<(), AllocError>
-        ensures { OnOk result ((before : List Told) → self.old ≡ tally_of before → self.new ≡ tally_of (before ++ told telling.now line.now ∷ [])) }
+    /// Takes one line more, which tells this of the rule, at the moment of the snapshot that it tells of. After a fault it is no tally of
+    /// these lines.
+    pub fn take(
+        &mut self,
+        alloc: Global,
+        telling: &Telling,
+        moment: Option<u64>,
+        line: &[u8],
+    ) -> Result<(), AllocError>
+        ensures { OnOk result ((before : List Told) → self.old ≡ tally_of before → self.new ≡ tally_of (before ++ told telling.now moment line.now ∷ [])) }
     {
-        self.add(alloc, telling, line)
+        self.add(alloc, telling, moment, line)
     }
 
-    fn add(&mut self, alloc: Global, telling: &Telling, line: &[u8]) -> Result<(), AllocError>
-        ensures { OnOk result (self.new ≡ with_line self.old telling.now line.now) }
+    fn add(
+        &mut self,
+        alloc: Global,
+        telling: &Telling,
+        moment: Option<u64>,
+        line: &[u8],
+    ) -> Result<(), AllocError>
+        ensures { OnOk result (self.new ≡ with_line self.old telling.now moment line.now) }
     {
         match telling {
-            Telling::Finding(entity) => self.find(alloc, entity, line),
-            Telling::Opened(entity, place) => self.open(alloc, entity, place, line),
+            Telling::Finding(entity) => self.find(alloc, entity, moment, line),
+            Telling::Opened(entity, place) => self.open(alloc, entity, place, moment, line),
             Telling::Closed(place) => self.close(alloc, place),
         }
     }
 
-    fn find(&mut self, alloc: Global, entity: &Option<Text>, line: &[u8]) -> Result<(), AllocError>
-        ensures { OnOk result (self.new ≡ with_finding self.old entity.now line.now) }
+    fn find(
+        &mut self,
+        alloc: Global,
+        entity: &Option<Text>,
+        moment: Option<u64>,
+        line: &[u8],
+    ) -> Result<(), AllocError>
+        ensures { OnOk result (self.new ≡ with_finding self.old entity.now moment line.now) }
     {
         self.findings = one_more(self.findings)?;
         if let Some(entity) = entity {
             self.meet(alloc, entity)?;
         }
-        keep(alloc, &mut self.first, line)
+        keep(alloc, &mut self.first, moment, line)
     }
 
     fn open(
@@ -75,14 +95,15 @@ impl Tally {
         alloc: Global,
         entity: &Option<Text>,
         place: &Text,
+        moment: Option<u64>,
         line: &[u8],
     ) -> Result<(), AllocError>
-        ensures { OnOk result (self.new ≡ with_opening self.old entity.now place.now line.now) }
+        ensures { OnOk result (self.new ≡ with_opening self.old entity.now place.now moment line.now) }
     {
         self.findings = one_more(self.findings)?;
         mark_given(alloc, &mut self.entities, entity)?;
         self.places.mark(alloc, place.as_str(), true)?;
-        keep(alloc, &mut self.first, line)
+        keep(alloc, &mut self.first, moment, line)
     }
 
     fn close(&mut self, alloc: Global, place: &Text) -> Result<(), AllocError>
@@ -124,11 +145,19 @@ fn mark_given(alloc: Global, names: &mut Names, name: &Option<Text>) -> Result<(
 }
 
 // Keeps the first line.
-fn keep(alloc: Global, first: &mut Option<Items<u8>>, line: &[u8]) -> Result<(), AllocError>
-    ensures { OnOk result (first.new ≡ kept first.old line.now) }
+fn keep(
+    alloc: Global,
+    first: &mut Option<FirstLine>,
+    moment: Option<u64>,
+    line: &[u8],
+) -> Result<(), AllocError>
+    ensures { OnOk result (first.new ≡ kept first.old moment line.now) }
 {
     if first.is_none() {
-        *first = Some(Items::from_vec(Vec::from_slice(alloc, line)?));
+        *first = Some(FirstLine {
+            moment,
+            line: Items::from_vec(Vec::from_slice(alloc, line)?),
+        });
     }
     Ok(())
 }

@@ -84,11 +84,22 @@ fn rules_of(alloc: Global, counts: &Counts) -> Result<Value, AllocError> {
 
 // The first line's tree, or null where the report's beginning is lost.
 fn first_of(alloc: Global, tally: &Tally) -> Result<Value, AllocError> {
-    let Some(line) = &tally.first else {
+    let Some(first) = &tally.first else {
         return Ok(Value::Null);
     };
-    match tree_of(alloc, line.as_slice())? {
+    match tree_of(alloc, first.line.as_slice())? {
         Some(finding) => Ok(finding),
+        None => Ok(Value::Null),
+    }
+}
+
+// The moment of the first line, or null where it isn't known.
+fn moment_of(alloc: Global, tally: &Tally) -> Result<Value, AllocError> {
+    let Some(first) = &tally.first else {
+        return Ok(Value::Null);
+    };
+    match first.moment {
+        Some(moment) => json!(in alloc; moment),
         None => Ok(Value::Null),
     }
 }
@@ -96,6 +107,7 @@ fn first_of(alloc: Global, tally: &Tally) -> Result<Value, AllocError> {
 fn rule_of(alloc: Global, rule: RuleId, tally: &Tally) -> Result<Value, AllocError> {
     let first = first_of(alloc, tally)?;
     let meaning = meaning_of(rule, tally.first.is_some() && is_on_header(&first));
+    let moment = moment_of(alloc, tally)?;
     let entities = tally.stretches.saturating_add(tally.entities.len() as u64);
     json!(in alloc; {
         "closings": tally.closings,
@@ -104,6 +116,7 @@ fn rule_of(alloc: Global, rule: RuleId, tally: &Tally) -> Result<Value, AllocErr
         "first": first,
         "level": rule.level(),
         "meaning": meaning,
+        "moment": moment,
         "places": tally.places.len() as u64,
         "rule": rule.name(),
         "standing": tally.places.marked() as u64,

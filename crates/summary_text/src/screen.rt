@@ -137,8 +137,8 @@ fn push_rule(
     push_numbers(alloc, &mut numbers, tally)?;
     push_wrapped(out, "    ", numbers.as_str())?;
     match &tally.first {
-        Some(line) => match tree_of(alloc, line.as_slice())? {
-            Some(finding) => push_first(alloc, out, rule, tally, &finding),
+        Some(first) => match tree_of(alloc, first.line.as_slice())? {
+            Some(finding) => push_first(alloc, out, rule, tally, first.moment, &finding),
             None => Ok(()),
         },
         None => push_wrapped(out, "    ", meaning_of(rule, false)),
@@ -169,6 +169,7 @@ fn push_first(
     out: &mut String,
     rule: RuleId,
     tally: &Tally,
+    moment: Option<u64>,
     finding: &Value,
 ) -> Result<(), AllocError> {
     push_wrapped(out, "    ", meaning_of(rule, is_on_header(finding)))?;
@@ -176,10 +177,19 @@ fn push_first(
     text.push_str("First: ")?;
     push_place(&mut text, finding)?;
     if tally.places.len() > 0 {
-        let since = count_at(finding, "since").unwrap_or(0);
-        write!(text, ", opened by snapshot {since}")?;
+        push_opening(&mut text, moment, finding)?;
     }
     text.push_str(": ")?;
     push_sentence(alloc, &mut text, finding)?;
     push_wrapped(out, "    ", text.as_str())
+}
+
+// Which snapshot opened it, and when that was.
+fn push_opening(out: &mut String, moment: Option<u64>, finding: &Value) -> Result<(), AllocError> {
+    let since = count_at(finding, "since").unwrap_or(0);
+    write!(out, ", opened by snapshot {since}")?;
+    match moment {
+        Some(moment) => write!(out, " at {moment}"),
+        None => Ok(()),
+    }
 }
