@@ -7,29 +7,45 @@
 //! - `rules`: the rules that are ignored
 //! - `names`: the names of the snapshots' files
 //! - `input`: standard input
+//! - `progress`: how much is read, on a terminal
 //! - `trouble`: why there is no summary
 #![tactic(auto)]
 
 mod input;
 mod names;
+mod progress;
 mod rules;
 mod trouble;
 mod words;
 
 use crate::input::StandardInput;
 use crate::names::names_of;
+use crate::progress::Watched;
 use crate::rules::ignored_by;
 use crate::trouble::Trouble;
 use crate::words::{command_of, fail_on};
 use clap::ArgMatches;
 use report_counts::Counts;
 use report_input::count_report;
-use rt_outside::{ReadEnd, RealFiles, RealSink, put_all};
+use rt_outside::{Files, ReadEnd, RealFiles, RealSink, put_all};
 use rule_table::RuleId;
 use std::alloc::AllocError;
 use std::env;
 use std::process::ExitCode;
 use summary_text::{record_of, screen_of};
+
+// The counts of the report of this name; on a terminal it is told how much of a long one is read.
+fn counted_in<F: Files + Drop>(
+    rt: &HostRuntime,
+    ignored: &[RuleId],
+    files: F,
+    name: &str,
+) -> Result<Counts, ReadEnd> {
+    let mut watched = Watched::new(rt, files);
+    let counts = count_report(rt.alloc(), ignored, &mut watched, name);
+    watched.clear();
+    counts
+}
 
 // The counts of the report that the words name, or of standard input.
 fn counted(
@@ -39,9 +55,9 @@ fn counted(
 ) -> Result<Counts, Trouble> {
     let name = matches.get_str("report").unwrap_or("-");
     let counts = if name == "-" {
-        count_report(rt.alloc(), ignored, &mut StandardInput::new(rt), name)
+        counted_in(rt, ignored, StandardInput::new(rt), name)
     } else {
-        count_report(rt.alloc(), ignored, &mut RealFiles::new(rt), name)
+        counted_in(rt, ignored, RealFiles::new(rt), name)
     };
     match counts {
         Ok(counts) => Ok(counts),
