@@ -1,3 +1,4 @@
 pub mod NameLemmas
 pub mod StretchLemmas
 pub mod LineLemmas
+pub mod MarkLaws

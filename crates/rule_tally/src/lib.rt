@@ -9,16 +9,19 @@
 //! - `names`: names, each once, with a mark
 //! - `first_line`: the first line of a rule
 //! - `tally`: the lines of one rule
+//! - `laws`: laws of the definitions
 #![tactic(auto)]
 
 mod counting;
 mod first_line;
+mod laws;
 mod names;
 mod tally;
 mod telling;
 
 pub use counting::one_more;
 pub use first_line::FirstLine;
+pub use laws::names_have_their_last_mark;
 pub use names::Names;
 pub use tally::Tally;
 pub use telling::Telling;
