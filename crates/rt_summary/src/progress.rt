@@ -4,7 +4,7 @@ ghost use Rattle.std.specs.Prelude.{◌≡◌};
 use rt_outside::{Failed, Files, Opening};
 use std::io::IsTerminal;
 
-// So many bytes are read before it is told, and again before it is told anew: what takes about a second.
+// So many bytes are read before it is told, and again before it is told anew.
 const STEP: u64 = 16_777_216;
 
 /// Files of which it is told on standard error how much is read, where that is a terminal and they are long.
