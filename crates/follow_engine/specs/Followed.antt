@@ -1,33 +1,53 @@
--- All feeds, once a snapshot came and all was judged anew.
-use Rattle.std.specs.Prelude.{◌≡◌, ℕ, ◌+◌, List, map, Option}
+-- All feeds, once a snapshot came and what it changes was judged.
+use Rattle.std.specs.Prelude.{◌≡◌, ℕ, ◌+◌, ◌*◌, List, length, map, Option}
 use Rattle.std.specs.List.{flat_map}
+use Rattle.feed_values.specs.Snapshot.{entity_payloads}
 use Rattle.timetable.specs.Timetables.{Tables}
-use Rattle.rule_history.specs.Changed.{with}
+use Rattle.rule_table.specs.Groups.{Each}
+use Rattle.rule_table.specs.Order.{key_cmp}
+use Rattle.rule_table.specs.Rises.{Rises}
 use Rattle.rule_history.specs.History.{Snapshot}
-use Rattle.rule_table.specs.Pairs.{PairRow}
-use Rattle.engine_laws.specs.Delta.{IsDelta}
-use Rattle.engine_laws.specs.HeldFeeds.{HeldFeed, feed_at, data_of, rows_held, entities_found, opened_in, closed_in}
-use Rattle.engine_laws.specs.Standings.{StandsFor}
-use Rattle.follow_engine.specs.declared.arrival.Arrival.{Arrival}
+use Rattle.rule_history.specs.Changed.{tested, paired, bounded}
+use Rattle.engine_laws.specs.Delta as law
+use Rattle.engine_laws.specs.Delta.{IsChange, bounded_held, paired_held, tested_held}
+use Rattle.engine_laws.specs.HeldFeeds.{HeldFeed, IsNext, held_after}
+use Rattle.touched_entities.specs.Told.{FeedTold, feed_closed, feed_opened}
+use Rattle.cached_laws.specs.State.{State, IsState, feed_of}
+use Rattle.cached_laws.specs.Cached.{AreCached}
+use Rattle.cached_laws.specs.Keys.{AreTouched}
+use Rattle.follow_engine.specs.Coming.{IsComing}
+use Rattle.follow_engine.specs.Deltas.{delta_value}
+use Rattle.follow_engine.specs.Moved.{IsMoved}
 use Rattle.follow_engine.specs.declared.delta.Delta.{Delta}
-use Rattle.follow_engine.specs.Counted.{tested_in, paired_in, bounded_in, total}
-use Rattle.follow_engine.specs.Deltas.{delta_value, all_opened, all_closed}
-use Rattle.follow_engine.specs.Rooms.{next_feed}
+use Rattle.follow_engine.specs.declared.following.Ready.{Ready}
+use Rattle.follow_engine.specs.declared.touching.Touched.{Touched}
 
--- feeds with the snapshot in its place are judged anew, with some pairing rows that find what all rows do; what opened, what
--- closed and the counts are those of each feed one after the other
-pub record IsJudged (t : Option Tables) (applied : ℕ) (a : Arrival) (mid new : List HeldFeed) (d : Delta) : Type 0 where
-  pub rows : List PairRow
-  pub rows_are : (x : Option Tables) (f : ℕ) → entities_found x rows (feed_at mid f).last ≡ entities_found x (rows_held (feed_at mid)) (feed_at mid f).last
-  pub new_is : new ≡ map (next_feed t rows a.feed a.before applied) mid
-  pub number_is : d.snapshot ≡ applied
-  pub opened_is : all_opened d.opened ≡ flat_map (λ r. opened_in r (next_feed t rows a.feed a.before applied r)) mid
-  pub closed_is : all_closed d.closed ≡ flat_map (λ r. closed_in r (next_feed t rows a.feed a.before applied r)) mid
-  pub tested_is : d.tested ≡ total (tested_in a.feed a.before) mid
-  pub paired_is : d.paired ≡ total (paired_in a.feed a.before a.changes) mid
-  pub bounded_is : d.bounded ≡ total (λ r. bounded_in a.feed a.before r (next_feed t rows a.feed a.before applied r)) mid
+-- ---- how many rules are tested for a snapshot: ten on its header, and at each entity that is concerned those of the part
+-- after a history
+abbrev pub tests_of : Option Tables → List Snapshot → Snapshot → ℕ
+tests_of t h s = 10 + (40 * tested h s + 3 * paired h s + 2 * bounded t h s)
 
--- feeds that stood for a history stand for it with the snapshot at its end, and the delta says what that changed
-pub record IsFollowed (t : Option Tables) (applied : ℕ) (s : Snapshot) (old new : List HeldFeed) (d : Delta) : Type 0 where
-  pub stands : (x : Option Tables) (h : List Snapshot) → StandsFor (data_of t applied old) x h → StandsFor (data_of t (applied + 1) new) x (with h s)
-  pub changes : (x : Option Tables) (h : List Snapshot) → StandsFor (data_of t applied old) x h → IsDelta x h s (data_of t (applied + 1) new).list (delta_value d)
+-- by what is held of each feed before it
+abbrev pub tests_owed : Option Tables → ℕ → Snapshot → (ℕ → HeldFeed) → ℕ
+tests_owed t n s old = 10 + (40 * tested_held s old + 3 * paired_held s old (held_after t n s old) + 2 * bounded_held s old (held_after t n s old))
+
+-- ---- what is known before it takes its place
+pub record IsReady (state : State) (s : Snapshot) (r : Ready) : Type 0 where
+  pub coming_is : IsComing s state.index r.coming
+  pub moved_is : IsMoved s (feed_of state) r.moved
+  pub touched_are : AreTouched state s r.touched.local r.touched.paired r.touched.bounded
+
+-- ---- The feeds are what is owed for the snapshot, their lists are what each part finds, and what was told is what changed.
+pub record IsJudged (t : Option Tables) (n : ℕ) (s : Snapshot) (old : State) (touched : Touched) (new : State) (tolds : List FeedTold) : Type 0 where
+  pub is_state : IsState new
+  pub next : IsNext t n s (feed_of old) (feed_of new)
+  pub cached : AreCached t new.index (feed_of new)
+  pub change : Each (λ x. Rises key_cmp (map (λ e. e.0) x.entities)) tolds → (d : law.Delta) → d.snapshot ≡ n → d.entities ≡ length (entity_payloads s.bytes) → d.opened ≡ flat_map feed_opened tolds → d.closed ≡ flat_map feed_closed tolds →
+      d.tested ≡ length touched.local → d.paired ≡ length touched.paired → d.bounded ≡ length touched.bounded → IsChange n s (feed_of old) (feed_of new) d
+
+pub record IsFollowed (t : Option Tables) (n : ℕ) (s : Snapshot) (old new : State) (d : Delta) : Type 0 where
+  pub was : IsState old
+  pub is : IsState new
+  pub next : IsNext t n s (feed_of old) (feed_of new)
+  pub cached : AreCached t new.index (feed_of new)
+  pub change : IsChange n s (feed_of old) (feed_of new) (delta_value d)

@@ -1,36 +1,45 @@
 //! The engine.
-ghost use Rattle.std.specs.Prelude.{◌≡◌, ◌<◌, List, [], Option, IfOk};
+ghost use Rattle.std.specs.Prelude.{◌≡◌, ◌+◌, ◌*◌, ◌<◌, ◌≤◌, List, [], Option, IfOk, OnOk};
 ghost use Rattle.timetable.specs.Timetables.{Tables};
 ghost use Rattle.rule_history.specs.Answered.{tables_of};
-ghost use Rattle.rule_history.specs.Changed.{with};
+ghost use Rattle.rule_history.specs.Changed.{tested, with};
 ghost use Rattle.rule_history.specs.History.{Snapshot};
 ghost use Rattle.engine_laws.specs.Delta.{IsDelta};
 ghost use Rattle.engine_laws.specs.Standings.{StandsFor};
+ghost use Rattle.cached_laws.specs.Cached.{AreCached};
+ghost use Rattle.cached_laws.specs.State.{feed_of};
 ghost use Rattle.follow_engine.specs.Deltas.{delta_value};
 ghost use Rattle.follow_engine.specs.Entities.{entities_after, entities_held};
+ghost use Rattle.follow_engine.specs.Followed.{tests_of};
 
 use crate::delta::Delta;
 use crate::entities::EntitiesIter;
-use crate::feeds::Feeds;
+use crate::feeds::{Feeds, HeldFeeds};
 use crate::findings::FindingsIter;
 use crate::following::{Followed, follow};
+use crate::rules::{Judging, Rules};
 use crate::taken::Taken;
+use entity_index::EntityIndex;
+use entity_parts::PartRules;
 use feed_stream::Kept;
 use judging::AllRules;
+use row_changes::HeldRows;
 use rt_outside::Steps;
 use std::alloc::{AllocError, Global};
 use std::sync::ledger::Ledger;
 use timetable::Timetable;
 
-/// What follows up to 16 feeds: a timetable, how many snapshots were taken, the last one of each feed, and the findings, each with
-/// the number of the snapshot since which its rule stands at its place. `engine_data` is what contracts see of it.
+/// What follows up to 16 feeds: a timetable, how many snapshots were taken, the last one of each feed with its entities decoded, and the findings of
+/// each entity and header, each with the number of the snapshot since which its rule stands at its place. `engine_data` is what contracts see of it.
 #[derive(Drop)]
 pub struct Engine {
     alloc: Global,
     table: Timetable,
-    rules: AllRules,
+    rules: Rules,
     applied: u64,
     feeds: Feeds,
+    // Each list that is held has what its part finds.
+    ghost cached: { AreCached (tables_of table) feeds.index (feed_of feeds) },
 }
 
 impl Engine {
@@ -40,22 +49,32 @@ impl Engine {
     pub fn new(alloc: Global, table: Timetable) -> Engine
         ensures { StandsFor (engine_data result) (tables_of table) [] }
     {
+        let feeds = Feeds {
+            held: HeldFeeds {
+                index: EntityIndex::new(alloc),
+                headers: Vec::new(alloc),
+            },
+            rows: HeldRows::new(alloc),
+        };
+        feeds.stands();
         Engine {
             alloc,
             table,
-            rules: AllRules::new(),
-            applied: 0,
-            feeds: Feeds {
-                rooms: Vec::new(alloc),
+            rules: Rules {
+                all: AllRules::new(),
+                parts: PartRules::new(),
             },
+            applied: 0,
+            feeds,
         }
     }
 
     /// Puts a snapshot of a feed at the end of the history, and answers the engine that stands for the longer history with what
     /// the snapshot changed.
     ///
-    /// Feeds count from 0. The moment is the time at which the snapshot was taken, in seconds from 1970. The one error is want of
-    /// memory; the engine is gone then.
+    /// Feeds count from 0. The moment is the time at which the snapshot was taken, in seconds from 1970. It decodes the entities that are new or have
+    /// other bytes, and judges again what the snapshot changed: `decodes` ticks once for each decoding, `tests` for each rule that is judged. The one
+    /// error is want of memory; the engine is gone then.
     pub fn apply<D: Ledger, T: Ledger>(
         self,
         feed: u8,
@@ -70,6 +89,10 @@ impl Engine {
             → StandsFor (engine_data r.0) t (with h (record { feed = feed; moment = moment; bytes = kept }))) }
         ensures changes { IfOk result (λ r. (t : Option Tables) (h : List Snapshot) → StandsFor (engine_data self) t h
             → IsDelta t h (record { feed = feed; moment = moment; bytes = kept }) (engine_data r.0).list (delta_value r.1)) }
+        ensures decoded { OnOk result ((t : Option Tables) (h : List Snapshot) → StandsFor (engine_data self) t h → decodes.new ≡ decodes.old + tested h (record { feed = feed; moment = moment; bytes = kept })) }
+        ensures most_decoded { (t : Option Tables) (h : List Snapshot) → StandsFor (engine_data self) t h → decodes.new ≤ decodes.old + tested h (record { feed = feed; moment = moment; bytes = kept }) }
+        ensures judged { OnOk result ((t : Option Tables) (h : List Snapshot) → StandsFor (engine_data self) t h → tests.new ≡ tests.old + tests_of t h (record { feed = feed; moment = moment; bytes = kept })) }
+        ensures most_judged { (t : Option Tables) (h : List Snapshot) → StandsFor (engine_data self) t h → tests.new ≤ tests.old + tests_of t h (record { feed = feed; moment = moment; bytes = kept }) }
     {
         let Engine {
             alloc,
@@ -78,10 +101,16 @@ impl Engine {
             applied,
             feeds,
         } = self;
-        let taken = Taken::new(alloc, feed, moment, kept, decodes)?;
-        let Followed { feeds, delta } = follow(
-            alloc, &rules, &table, applied, feeds, taken, tests,
-        )?;
+        feeds.stands();
+        let _bytes = kept.bytes();
+        let taken = Taken { feed, moment, kept };
+        let judging = Judging {
+            alloc,
+            rules: &rules,
+            table: &table,
+            applied,
+        };
+        let Followed { feeds, delta } = follow(&judging, feeds, taken, decodes, tests)?;
         let engine = Engine {
             alloc,
             table,
@@ -104,15 +133,15 @@ impl Engine {
     pub fn findings(&self) -> FindingsIter<'_>
         ensures { result ≡ (engine_data self.now).list }
     {
-        FindingsIter::new(&self.feeds.rooms)
+        FindingsIter::new(&self.feeds)
     }
 
     /// The entities of the last snapshots of all feeds, each under its key, in the order of their keys. It takes no memory.
-    #[tactic(auto, using(crate::proofs::EntitiesHeld::held_after))]
     pub fn entities(&self) -> EntitiesIter<'_>
         ensures held { result ≡ entities_held self.now.feeds }
         ensures after { (t : Option Tables) (h : List Snapshot) → StandsFor (engine_data self.now) t h → result ≡ entities_after h }
     {
-        EntitiesIter::new(&self.feeds.rooms)
+        self.feeds.stands();
+        EntitiesIter::new(&self.feeds)
     }
 }

@@ -1,26 +1,42 @@
 //! Findings handed out in order.
 ghost use Rattle.std.specs.Prelude.{◌≡◌};
-ghost use Rattle.std.specs.Iterator.{YieldsFirstBy, YieldsFirstRef, item_count};
-ghost use Rattle.std.specs.List.{flat_map};
-ghost use Rattle.engine_laws.specs.HeldFeeds.{feed_list};
-ghost use Rattle.follow_engine.specs.Left.{standing_of};
-ghost use Rattle.follow_engine.specs.Rooms.{feeds_of};
+ghost use Rattle.std.specs.Iterator.{YieldsFirstBy, item_count};
+ghost use Rattle.engine_laws.specs.HeldFeeds.{joined};
+ghost use Rattle.cached_laws.specs.State.{feed_of, whole_of};
+ghost use Rattle.follow_engine.specs.Left.{at_hand, standing_of};
 
-use crate::room::Room;
-use feed_values::Items;
-use rule_table::{EntityKey, Finding};
-use standing_walks::Standing;
-use std::collections::btree_map::Values;
+use crate::feeds::{Feeds, FeedsIter};
+use entity_index::{Parts, PartsIter};
+use rule_table::Finding;
+use standing_walks::{FourLists, Standing};
 use std::marker::Model;
 
-/// The lists of standings that are left to walk: of each feed that on its header, then those at its entities. Contracts see it
-/// as the list of them.
+/// What stands at an entity.
+fn whole(parts: &Parts) -> FourLists<'_>
+    ensures { result ≡ whole_of parts.now }
+{
+    FourLists::new(
+        parts.get(0).as_slice(),
+        parts.get(1).as_slice(),
+        parts.get(2).as_slice(),
+        parts.get(3).as_slice(),
+    )
+}
+
+/// What stands on a header.
+fn alone(list: &[Standing]) -> FourLists<'_>
+    ensures { result ≡ list.now }
+{
+    FourLists::new(list, &[], &[], &[])
+}
+
+/// The lists that are left to hand out: of each feed that on its header, then those at its entities. Contracts see it as the list of them.
 #[derive(Drop)]
 struct Lists<'a> {
     /// Those at entities of the feed at hand.
-    entities: Option<Values<'a, EntityKey, Items<Standing>>>,
+    entities: Option<PartsIter<'a>>,
     /// The feeds after it.
-    rooms: &'a [Option<Room>],
+    feeds: FeedsIter<'a>,
 }
 
 impl<'a> Model for Lists<'a> {
@@ -28,38 +44,39 @@ impl<'a> Model for Lists<'a> {
     ghost use Rattle.std.specs.List.{flat_map};
     ghost use Rattle.rule_history.specs.Standing as standing;
     ghost use Rattle.follow_engine.specs.Left.{at_hand, feed_lists};
-    ghost use Rattle.follow_engine.specs.Rooms.{feeds_of};
 
     ghost Value = { List (List standing.Standing) };
 
-    ghost view = { λ s. at_hand s.entities ++ flat_map feed_lists (feeds_of s.rooms.now) };
+    ghost view = { λ s. at_hand s.entities ++ flat_map feed_lists s.feeds };
+}
+
+// What stands at the next entity of the feed at hand, if one is left.
+fn next_at_hand<'a>(entities: &mut Option<PartsIter<'a>>) -> Option<FourLists<'a>>
+    ensures { YieldsFirstBy (λ list. list) at_hand entities.old result entities.new }
+{
+    match entities {
+        None => None,
+        Some(entities) => {
+            let (_, parts) = entities.next()?;
+            Some(whole(parts))
+        }
+    }
 }
 
 impl<'a> Iterator for Lists<'a> {
-    type Item = &'a [Standing];
+    type Item = FourLists<'a>;
 
-    ghost next_gives = { YieldsFirstRef (λ left. left) };
+    ghost next_gives = { YieldsFirstBy (λ list. list) (λ left. left) };
 
     ghost remaining = { item_count (λ left. left) };
 
-    fn next(&mut self) -> Option<&'a [Standing]> {
-        if let Some(lists) = &mut self.entities
-            && let Some(list) = lists.next()
-        {
-            return Some(list.as_slice());
+    fn next(&mut self) -> Option<FourLists<'a>> {
+        if let Some(list) = next_at_hand(&mut self.entities) {
+            return Some(list);
         }
-        let (room, others) = self.rooms.split_first()?;
-        self.rooms = others;
-        match room {
-            None => {
-                self.entities = None;
-                Some(&[])
-            }
-            Some(room) => {
-                self.entities = Some(room.entities.values());
-                Some(room.header.as_slice())
-            }
-        }
+        let (held, feed) = self.feeds.next()?;
+        self.entities = Some(held.index.parts(feed));
+        Some(alone(held.list_on(feed)))
     }
 }
 
@@ -67,7 +84,7 @@ impl<'a> Iterator for Lists<'a> {
 /// its place. Contracts see it as the list of them. It takes no memory.
 #[derive(Drop)]
 pub struct FindingsIter<'a> {
-    list: &'a [Standing],
+    list: FourLists<'a>,
     lists: Lists<'a>,
 }
 
@@ -78,19 +95,18 @@ impl<'a> Model for FindingsIter<'a> {
 
     ghost Value = { List standing.Standing };
 
-    ghost view = { λ s. s.list.now ++ flat s.lists };
+    ghost view = { λ s. s.list ++ flat s.lists };
 }
 
 impl<'a> FindingsIter<'a> {
-    #[tactic(auto, using(crate::proofs::Flat::flat_feeds))]
-    pub(crate) fn new(rooms: &'a [Option<Room>]) -> FindingsIter<'a>
-        ensures { result ≡ flat_map feed_list (feeds_of rooms.now) }
+    pub(crate) fn new(feeds: &'a Feeds) -> FindingsIter<'a>
+        ensures { result ≡ joined (feed_of feeds.now) }
     {
         FindingsIter {
-            list: &[],
+            list: FourLists::new(&[], &[], &[], &[]),
             lists: Lists {
                 entities: None,
-                rooms,
+                feeds: FeedsIter::new(feeds),
             },
         }
     }
@@ -104,11 +120,11 @@ impl<'a> Iterator for FindingsIter<'a> {
     ghost remaining = { item_count (λ left. left) };
 
     fn next(&mut self) -> Option<(&'a Finding, u64)> {
-        while self.list.is_empty() {
+        loop {
+            if let Some(standing) = self.list.next() {
+                return Some((standing.finding(), standing.since()));
+            }
             self.list = self.lists.next()?;
         }
-        let (standing, others) = self.list.split_first()?;
-        self.list = others;
-        Some((standing.finding(), standing.since()))
     }
 }

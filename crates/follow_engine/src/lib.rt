@@ -1,33 +1,26 @@
-//! An engine that follows up to 16 feeds.
+//! An engine that follows up to 16 feeds, and judges again only what a snapshot changes.
 //!
-//! `engine` puts a snapshot at the end of the history. `taken` holds a snapshot decoded, `seating` its entities under their keys.
-//! `arriving` puts a snapshot in the place of the one before it, and tells by `changes` and `kinds` what became of pairing rows.
-//! `rows` gives the pairing rows of all feeds, `renewing` judges a header and entities anew, `counting` counts entities, `rooms` does
-//! it feed by feed, and `following` all of it. `findings` and `entities` hand out what is held. Findings since a snapshot, and the walks that compare
-//! what was found with what is, are those of `standing_walks`.
+//! `engine` puts a snapshot at the end of the history. A `taken` snapshot is compared with the one that is held of its feed and decoded where it is new
+//! (`coming`); the pairing rows and timestamps of what came and went are exchanged (`moving`), which tells by keys what else is to be judged again
+//! (`touching`). Then its header is judged (`renewing`), it takes its place, and the three parts of entities' findings are judged under these keys
+//! (`parts`). `following` does all of it. `findings` and `entities` hand out what is held.
 //!
-//! What they speak of: `arrival` is a snapshot that came, `delta` what it changes, `room` what is held of a feed and `feeds` of all of them,
-//! `seat` an entity as it is held.
+//! What they speak of: `feeds` is what is held of all feeds, `rules` are the groups of rules, `delta` is what a snapshot changes.
 #![tactic(auto)]
 
-mod arrival;
-mod arriving;
-mod changes;
-mod counting;
+mod coming;
 mod delta;
 mod engine;
 mod entities;
 mod feeds;
 mod findings;
 mod following;
-mod kinds;
+mod moving;
+mod parts;
 mod renewing;
-mod room;
-mod rooms;
-mod rows;
-mod seat;
-mod seating;
+mod rules;
 mod taken;
+mod touching;
 
 pub use delta::Delta;
 pub use engine::Engine;

@@ -1,151 +1,73 @@
-//! Findings judged anew.
-ghost use Rattle.std.specs.Prelude.{◌≡◌, ◌++◌, Some, IfOk};
-ghost use Rattle.rule_history.specs.Answered.{tables_of};
-ghost use Rattle.rule_history.specs.Standing.{opened};
-ghost use Rattle.engine_laws.specs.Order.{found_cmp, Rises};
-ghost use Rattle.engine_laws.specs.Standings.{findings_of, renewed};
-ghost use Rattle.engine_laws.specs.HeldFeeds.{head_found, entities_found, renewed_lists, list_under};
-ghost use Rattle.follow_engine.specs.Found.{found_at};
-ghost use Rattle.std.specs.List.{flat_map};
-ghost use Rattle.follow_engine.specs.Deltas.{all_opened};
-ghost use Rattle.follow_engine.specs.Rooms.{IsInOrder, ListsInOrder};
-ghost use Rattle.follow_engine.specs.Seated.{IsSeat, seat_payload};
+//! The header of a snapshot judged.
+ghost use Rattle.std.specs.Prelude.{◌≡◌, ◌+◌, ◌≤◌, ◌==◌, ℕ, List, IfOk, OnOk, if◌then◌else◌};
+ghost use Rattle.rule_table.specs.declared.key.EntityKey.{EntityKey as Key};
+ghost use Rattle.engine_laws.specs.HeldFeeds.{head_found};
+ghost use Rattle.standing_walks.specs.Walked.{IsInOrder};
+ghost use Rattle.touched_entities.specs.Told.{AreTolds, header_told, plus, told_at, told_between};
+ghost use Rattle.cached_laws.specs.State.{feed_of, header_at};
+ghost use Rattle.cached_laws.specs.Judged.{header_then};
+ghost use Rattle.follow_engine.specs.Coming.{IsComing};
+ghost use Rattle.follow_engine.specs.States.{snapshot_of, state_of};
 
-use crate::seat::Seat;
+use crate::coming::Coming;
+use crate::feeds::HeldFeeds;
+use crate::rules::Judging;
 use crate::taken::Taken;
 use feed_values::Items;
-use judging::AllRules;
 use rt_outside::Steps;
-use rule_table::{EntityKey, Finding, PairView};
-use standing_walks::{Opened, Standing, put_opened, renew};
-use std::alloc::{AllocError, Global};
-use std::collections::BTreeMap;
+use rule_table::Finding;
+use standing_walks::{Standing, renew};
+use std::alloc::AllocError;
 use std::sync::ledger::Ledger;
-use timetable::Timetable;
+use touched_entities::Tolds;
 
-/// The list that is held under a key.
-pub(crate) fn held_under<'a>(
-    lists: &'a BTreeMap<EntityKey, Items<Standing>>,
-    key: &EntityKey,
-) -> &'a [Standing]
-    requires { ListsInOrder lists.now.entries }
-    ensures list { result.now ≡ list_under key.now lists.now.entries }
-    ensures ordered { IsInOrder result.now }
-{
-    match lists.get(key) {
-        None => &[],
-        Some(list) => list.as_slice(),
-    }
-}
-
-/// The findings on the header of a snapshot, with the snapshot before it.
+/// The findings on the header of a snapshot, with the snapshot before it. It ticks ten times.
 fn judge_header<T: Ledger>(
-    alloc: Global,
-    rules: &AllRules,
+    judging: &Judging<'_>,
+    held: &HeldFeeds,
     taken: &Taken,
-    before: &Option<Taken>,
+    coming: &Coming,
     tests: &mut Steps<T>,
 ) -> Result<Items<Finding>, AllocError>
-    ensures { IfOk result (λ found. found ≡ head_found taken.now before.now) }
+    requires { IsComing (snapshot_of taken.now) held.now.index coming.now }
+    ensures found { IfOk result (λ found. found ≡ head_found (snapshot_of taken.now) (feed_of (state_of held.now) taken.now.feed).last) }
+    ensures ticked { OnOk result (tests.new ≡ tests.old + 10) }
+    ensures most { tests.new ≤ tests.old + 10 }
 {
-    let feed = taken.feed();
-    let moment = taken.moment();
-    match before {
-        None => rules.judge_header(alloc, feed, taken.header(), None, false, moment, tests),
-        Some(before) => {
-            let changed = !taken.has_entities_of(before);
-            let previous = Some(before.header());
-            rules.judge_header(
-                alloc,
-                feed,
-                taken.header(),
-                previous,
-                changed,
-                moment,
-                tests,
-            )
-        }
-    }
-}
-
-/// The standings on the header of a snapshot: judged anew.
-pub(crate) fn renew_header<T: Ledger>(
-    alloc: Global,
-    rules: &AllRules,
-    taken: &Taken,
-    before: &Option<Taken>,
-    old: &[Standing],
-    applied: u64,
-    tests: &mut Steps<T>,
-) -> Result<Items<Standing>, AllocError>
-    requires { IsInOrder old.now }
-    ensures list { IfOk result (λ list. list ≡ renewed old.now applied (head_found taken.now before.now)) }
-    ensures ordered { IfOk result IsInOrder }
-{
-    let found = judge_header(alloc, rules, taken, before, tests)?;
-    let list = renew(alloc, old, found, applied)?;
-    Ok(list)
-}
-
-/// The standings at an entity of a snapshot: judged anew, with the pairing rows as they are now.
-fn renew_entity<P: PairView, T: Ledger>(
-    alloc: Global,
-    rules: &AllRules,
-    table: &Timetable,
-    rows: &P,
-    taken: &Taken,
-    key: &EntityKey,
-    seat: &Seat,
-    old: &[Standing],
-    applied: u64,
-    tests: &mut Steps<T>,
-) -> Result<Items<Standing>, AllocError>
-    requires old { IsInOrder old.now }
-    requires seat { IsSeat taken.now.bytes seat.now }
-    requires found { Rises found_cmp (found_at (tables_of table.now) (P.rows rows.now) taken.now (key.now, seat_payload taken.now.bytes seat.now)) }
-    ensures list { IfOk result (λ list. list ≡ renewed old.now applied (found_at (tables_of table.now) (P.rows rows.now) taken.now (key.now, seat_payload taken.now.bytes seat.now))) }
-    ensures ordered { IfOk result IsInOrder }
-{
-    let found = rules.judge_entity(
-        alloc,
-        table,
-        rows,
-        taken.header(),
-        taken.moment(),
-        key,
-        &seat.entity,
+    judging.rules.all.judge_header(
+        judging.alloc,
+        taken.feed,
+        &coming.header,
+        coming.before.as_ref(),
+        coming.changes.reordered,
+        taken.moment,
         tests,
-    )?;
-    let list = renew(alloc, old, found, applied)?;
-    Ok(list)
+    )
 }
 
-/// The standings at the entities of a snapshot, with what opened there.
-pub(crate) fn renew_entities<P: PairView, T: Ledger>(
-    alloc: Global,
-    rules: &AllRules,
-    table: &Timetable,
-    rows: &P,
+/// What stands on the header of a snapshot: judged anew, with what that opens and closes.
+pub(crate) fn renew_header<T: Ledger>(
+    judging: &Judging<'_>,
+    held: &HeldFeeds,
     taken: &Taken,
-    old: &BTreeMap<EntityKey, Items<Standing>>,
-    applied: u64,
+    coming: &Coming,
+    tolds: &mut Tolds,
     tests: &mut Steps<T>,
-    opens: &mut Items<Opened>,
-) -> Result<BTreeMap<EntityKey, Items<Standing>>, AllocError>
-    requires { ListsInOrder old.now.entries }
-    ensures lists { IfOk result (λ lists. lists.entries ≡ renewed_lists old.now.entries applied (entities_found (tables_of table.now) (P.rows rows.now) (Some taken.now))) }
-    ensures ordered { IfOk result (λ lists. ListsInOrder lists.entries) }
-    ensures opens { IfOk result (λ lists. all_opened opens.new ≡ all_opened opens.old ++ flat_map (λ c. opened (findings_of (list_under c.0 old.now.entries)) c.1) lists.entries) }
+) -> Result<Items<Standing>, AllocError>
+    requires ordered { IsInOrder (header_at held.now.headers.items taken.now.feed).list }
+    requires coming { IsComing (snapshot_of taken.now) held.now.index coming.now }
+    ensures list { IfOk result (λ list. list ≡ header_then judging.now.applied (snapshot_of taken.now) (state_of held.now)) }
+    ensures own { OnOk result (AreTolds tolds.old → AreTolds tolds.new) }
+    ensures told { OnOk result ((k : Key) → told_at tolds.new k ≡ told_at tolds.old k) }
+    ensures headers { OnOk result ((f : ℕ) → header_told tolds.new f ≡ (if taken.now.feed == f
+        then plus (header_told tolds.old f) (told_between (header_at held.now.headers.items taken.now.feed).list (header_then judging.now.applied (snapshot_of taken.now) (state_of held.now)))
+        else header_told tolds.old f)) }
+    ensures ticked { OnOk result (tests.new ≡ tests.old + 10) }
+    ensures most { tests.new ≤ tests.old + 10 }
 {
-    let mut lists = BTreeMap::new(alloc);
-    let seats = taken.seats();
-    for (key, seat) in seats {
-        let before = held_under(old, key);
-        let list = renew_entity(
-            alloc, rules, table, rows, taken, key, seat, before, applied, tests,
-        )?;
-        put_opened(alloc, before, list.as_slice(), opens)?;
-        lists.insert(key.clone(alloc)?, list)?;
-    }
-    Ok(lists)
+    let found = judge_header(judging, held, taken, coming, tests)?;
+    let old = held.list_on(taken.feed);
+    let list = renew(judging.alloc, old, found, judging.applied)?;
+    tolds.put_header(judging.alloc, taken.feed, old, list.as_slice())?;
+    Ok(list)
 }

@@ -1,31 +1,112 @@
-use Rattle.std.proofs.Common.{◌∙◌, subst}
+use Rattle.std.proofs.Common.{◌∙◌, ◌+◌, ◌≤◌, ap, sym, subst}
 use Rattle.rule_history.specs.Answered.{tables_of}
+use Rattle.engine_laws.specs.Delta.{tested_held}
+use Rattle.cached_laws.specs.State.{State, feed_of}
+use Rattle.cached_laws.specs.Cached.{AreCached}
+use Rattle.cached_laws.proofs.Counts.{fresh_size}
 use Rattle.follow_engine.specs.Deltas.{delta_value}
-use Rattle.follow_engine.specs.Followed.{IsFollowed}
-use Rattle.follow_engine.specs.Rooms.{feeds_of}
-use Rattle.follow_engine.proofs.Applied.{mid_rooms, after, stands_new, changes_new}
+use Rattle.follow_engine.specs.Followed.{IsFollowed, tests_owed}
+use Rattle.follow_engine.specs.States.{snapshot_of, state_of}
+use Rattle.follow_engine.proofs.Owed.{ticks_are}
 use Rattle.follow_engine.proofs.following.follow.Goals as goal
 
-pub arrive-requires-clause-rooms : goal.arrive-requires-clause-rooms
-arrive-requires-clause-rooms g c = c.feeds.invariant
+pub returns-in_err-coming-clause-most_decoded : goal.returns-in_err-coming-clause-most_decoded
+returns-in_err-coming-clause-most_decoded g c =
+    let s = snapshot_of c.args.taken in
+    let state = state_of c.feeds.inside.held in
+    let is = c.feeds.invariant.is_state in
+    let size = fresh_size state s is c.requires.feed ∙ ap (λ (x : State). tested_held s (feed_of x)) c.feeds.view_is in
+    subst (λ m. c.prepare.new.decodes ≤ c.args.decodes.now + m) size c.prepare.ensures.most
 
-pub judge_all-requires : goal.judge_all-requires
-judge_all-requires g c = mid_rooms c.args.taken (feeds_of c.feeds.inside.rooms.items) (feeds_of c.arrive.new.rooms.items) c.in_ok-arrival.arrival c.feeds.invariant c.in_ok-arrival.ensures
+pub returns-in_err-held-clause-most_decoded : goal.returns-in_err-held-clause-most_decoded
+returns-in_err-held-clause-most_decoded g c =
+    let s = snapshot_of c.args.taken in
+    let state = state_of c.feeds.inside.held in
+    let is = c.feeds.invariant.is_state in
+    let size = fresh_size state s is c.requires.feed ∙ ap (λ (x : State). tested_held s (feed_of x)) c.feeds.view_is in
+    subst (λ m. c.prepare.new.decodes ≤ c.args.decodes.now + m) size c.prepare.ensures.most
 
-pub invariant_of-result : goal.invariant_of-result
-invariant_of-result g c =
-    after (tables_of c.args.table.now) c.args.applied c.args.taken (feeds_of c.feeds.inside.rooms.items) (feeds_of c.arrive.new.rooms.items) (feeds_of c.in_ok-rooms.field-0.rooms.items) c.in_ok-arrival.arrival c.in_ok-rooms.ensures.all.rows
-    c.feeds.invariant c.requires c.in_ok-arrival.ensures c.in_ok-rooms.ensures.all.rows_are c.in_ok-rooms.ensures.all.new_is
+pub returns-in_err-delta-clause-most_decoded : goal.returns-in_err-delta-clause-most_decoded
+returns-in_err-delta-clause-most_decoded g c =
+    let s = snapshot_of c.args.taken in
+    let state = state_of c.feeds.inside.held in
+    let is = c.feeds.invariant.is_state in
+    let size = fresh_size state s is c.requires.feed ∙ ap (λ (x : State). tested_held s (feed_of x)) c.feeds.view_is in
+    subst (λ m. c.prepare.new.decodes ≤ c.args.decodes.now + m) size c.prepare.ensures.most
 
-pub returns : goal.returns
-returns g c =
-    subst (λ o. IsFollowed (tables_of c.args.table.now) c.args.applied c.args.taken o (feeds_of c.in_ok-rooms.field-0.rooms.items) c.in_ok-rooms.field-0.delta) c.feeds.view_is
+pub returns-clause-most_decoded : goal.returns-clause-most_decoded
+returns-clause-most_decoded g c =
+    let s = snapshot_of c.args.taken in
+    let state = state_of c.feeds.inside.held in
+    let is = c.feeds.invariant.is_state in
+    let size = fresh_size state s is c.requires.feed ∙ ap (λ (x : State). tested_held s (feed_of x)) c.feeds.view_is in
+    subst (λ m. c.prepare.new.decodes ≤ c.args.decodes.now + m) size c.prepare.ensures.most
+
+pub returns-in_err-held-clause-most_tested : goal.returns-in_err-held-clause-most_tested
+returns-in_err-held-clause-most_tested g c =
+    let t = tables_of c.args.judging.now.table.now in
+    let n = c.args.judging.now.applied in
+    let s = snapshot_of c.args.taken in
+    let state = state_of c.feeds.inside.held in
+    let is = c.feeds.invariant.is_state in
+    let cached = subst (λ (x : State). AreCached t x.index (feed_of x)) (sym c.feeds.view_is) c.requires.cached in
+    let touched = c.in_ok-coming.field-0.touched in
+    let size = ticks_are state s is c.requires.taken c.requires.feed t n cached touched.local touched.paired touched.bounded c.in_ok-coming.ensures.ready.touched_are ∙ ap (λ (x : State). tests_owed t n s (feed_of x)) c.feeds.view_is in
+    subst (λ m. c.judge.new.tests ≤ c.args.tests.now + m) size c.judge.ensures.most
+
+pub returns-in_err-delta-clause-most_tested : goal.returns-in_err-delta-clause-most_tested
+returns-in_err-delta-clause-most_tested g c =
+    let t = tables_of c.args.judging.now.table.now in
+    let n = c.args.judging.now.applied in
+    let s = snapshot_of c.args.taken in
+    let state = state_of c.feeds.inside.held in
+    let is = c.feeds.invariant.is_state in
+    let cached = subst (λ (x : State). AreCached t x.index (feed_of x)) (sym c.feeds.view_is) c.requires.cached in
+    let touched = c.in_ok-coming.field-0.touched in
+    let size = ticks_are state s is c.requires.taken c.requires.feed t n cached touched.local touched.paired touched.bounded c.in_ok-coming.ensures.ready.touched_are ∙ ap (λ (x : State). tests_owed t n s (feed_of x)) c.feeds.view_is in
+    subst (λ m. c.judge.new.tests ≤ c.args.tests.now + m) size c.judge.ensures.most
+
+pub returns-clause-most_tested : goal.returns-clause-most_tested
+returns-clause-most_tested g c =
+    let t = tables_of c.args.judging.now.table.now in
+    let n = c.args.judging.now.applied in
+    let s = snapshot_of c.args.taken in
+    let state = state_of c.feeds.inside.held in
+    let is = c.feeds.invariant.is_state in
+    let cached = subst (λ (x : State). AreCached t x.index (feed_of x)) (sym c.feeds.view_is) c.requires.cached in
+    let touched = c.in_ok-coming.field-0.touched in
+    let size = ticks_are state s is c.requires.taken c.requires.feed t n cached touched.local touched.paired touched.bounded c.in_ok-coming.ensures.ready.touched_are ∙ ap (λ (x : State). tests_owed t n s (feed_of x)) c.feeds.view_is in
+    subst (λ m. c.judge.new.tests ≤ c.args.tests.now + m) size c.judge.ensures.most
+
+pub returns-clause-decoded : goal.returns-clause-decoded
+returns-clause-decoded g c =
+    let s = snapshot_of c.args.taken in
+    let state = state_of c.feeds.inside.held in
+    let is = c.feeds.invariant.is_state in
+    let size = fresh_size state s is c.requires.feed ∙ ap (λ (x : State). tested_held s (feed_of x)) c.feeds.view_is in
+    c.in_ok-coming.ensures.ticked ∙ ap (λ m. c.args.decodes.now + m) size
+
+pub returns-clause-tested : goal.returns-clause-tested
+returns-clause-tested g c =
+    let t = tables_of c.args.judging.now.table.now in
+    let n = c.args.judging.now.applied in
+    let s = snapshot_of c.args.taken in
+    let state = state_of c.feeds.inside.held in
+    let is = c.feeds.invariant.is_state in
+    let cached = subst (λ (x : State). AreCached t x.index (feed_of x)) (sym c.feeds.view_is) c.requires.cached in
+    let touched = c.in_ok-coming.field-0.touched in
+    let size = ticks_are state s is c.requires.taken c.requires.feed t n cached touched.local touched.paired touched.bounded c.in_ok-coming.ensures.ready.touched_are ∙ ap (λ (x : State). tests_owed t n s (feed_of x)) c.feeds.view_is in
+    c.in_ok-held.ensures.ticked ∙ ap (λ m. c.args.tests.now + m) size
+
+pub returns-clause-followed : goal.returns-clause-followed
+returns-clause-followed g c =
+    let judged = c.in_ok-held.ensures.judged in
+    let told = c.in_ok-delta.ensures in
+    subst (λ (x : State). IsFollowed (tables_of c.args.judging.now.table.now) c.args.judging.now.applied (snapshot_of c.args.taken) x (state_of c.in_ok-held.field-0.held) c.in_ok-delta.delta) c.feeds.view_is
     record {
-      stands =
-          stands_new (tables_of c.args.table.now) c.args.applied c.args.taken (feeds_of c.feeds.inside.rooms.items) (feeds_of c.arrive.new.rooms.items) (feeds_of c.in_ok-rooms.field-0.rooms.items) c.in_ok-arrival.arrival c.in_ok-rooms.ensures.all.rows
-          c.feeds.invariant c.requires c.in_ok-arrival.ensures c.in_ok-rooms.ensures.all.rows_are c.in_ok-rooms.ensures.all.new_is;
-      changes =
-          changes_new (tables_of c.args.table.now) c.args.applied c.args.taken (feeds_of c.feeds.inside.rooms.items) (feeds_of c.arrive.new.rooms.items) (feeds_of c.in_ok-rooms.field-0.rooms.items) c.in_ok-arrival.arrival c.in_ok-rooms.ensures.all.rows
-          c.feeds.invariant c.requires c.in_ok-arrival.ensures c.in_ok-rooms.ensures.all.rows_are c.in_ok-rooms.ensures.all.new_is
-          (delta_value c.in_ok-rooms.field-0.delta) c.in_ok-rooms.ensures.all.number_is (c.in_ok-rooms.ensures.entities ∙ c.len-entities.ensures) c.in_ok-rooms.ensures.all.opened_is c.in_ok-rooms.ensures.all.closed_is c.in_ok-rooms.ensures.all.tested_is c.in_ok-rooms.ensures.all.paired_is c.in_ok-rooms.ensures.all.bounded_is;
+      was = c.feeds.invariant.is_state;
+      is = judged.is_state;
+      next = judged.next;
+      cached = judged.cached;
+      change = judged.change told.ordered (delta_value c.in_ok-delta.delta) told.snapshot (told.entities ∙ c.len-entities.ensures) told.opened told.closed told.tested told.paired told.bounded;
     }

@@ -1,19 +1,19 @@
-use Rattle.std.proofs.Common.{ap, ◌∙◌, sym, not, None, Some, [], false, refl}
+use Rattle.std.proofs.Common.{◌∙◌, ap, [], None}
+use Rattle.std.specs.Prelude.{option_map}
 use Rattle.feed_values.specs.Views.{feed_header_value}
-use Rattle.engine_laws.specs.HeldFeeds.{head_found}
-use Rattle.follow_engine.proofs.Judged.{head_is, if_ok}
+use Rattle.judging.specs.Whole as whole
+use Rattle.cached_laws.specs.State.{feed_of, header_at}
+use Rattle.follow_engine.specs.States.{snapshot_of, state_of}
+use Rattle.follow_engine.proofs.Headed.{differ_is, head_is, if_ok, previous_is}
 use Rattle.follow_engine.proofs.renewing.judge_header.Goals as goal
 
-pub returns-in-None : goal.returns-in-None
-returns-in-None g c =
+pub returns-clause-found : goal.returns-clause-found
+returns-clause-found g c =
+    let feed = c.args.taken.now.feed in
+    let moment = (header_at c.args.held.now.headers.items feed).moment in
     if_ok c.judge_header.result _ _
-    (λ found h. head_is None [] c.args.taken.now None c.feed-feed.result (feed_header_value c.header.result.now) None false c.moment-moment.result found
-    c.feed-feed.ensures c.header.ensures refl refl c.moment-moment.ensures (h None []) ∙ ap (head_found c.args.taken.now) (sym c.in-None.is))
+    (λ found h.
+    head_is None [] (snapshot_of c.args.taken.now) (feed_of (state_of c.args.held.now) feed).last (feed_header_value c.args.coming.now.header) (option_map feed_header_value c.args.coming.now.before) c.args.coming.now.changes.reordered found
+    c.requires.header_is (c.requires.before_is ∙ previous_is feed moment _) (c.requires.changes_are.reordered_is ∙ differ_is feed moment _ c.args.taken.now.kept)
+    (h None [] ∙ ap (λ o. whole.header_found None [] (record { header = feed_header_value c.args.coming.now.header; previous = option_map feed_header_value o; changed = c.args.coming.now.changes.reordered; moment = c.args.taken.now.moment }) feed) c.as_ref.ensures.value))
     c.judge_header.ensures.found
-
-pub returns-in-Some : goal.returns-in-Some
-returns-in-Some g c =
-    if_ok c.judge_header-in-Some.result _ _
-    (λ found h. head_is None [] c.args.taken.now (Some c.in-Some.before) c.feed-feed.result (feed_header_value c.header-in-Some-2.result.now) (Some (feed_header_value c.header-in-Some.result.now)) (not c.has_entities_of-changed.result) c.moment-moment.result found
-    c.feed-feed.ensures c.header-in-Some-2.ensures (ap Some c.header-in-Some.ensures) (ap not c.has_entities_of-changed.ensures) c.moment-moment.ensures (h None []) ∙ ap (head_found c.args.taken.now) (sym c.in-Some.is))
-    c.judge_header-in-Some.ensures.found

@@ -1,16 +1,48 @@
-use Rattle.std.proofs.Common.{◌<◌, sym, subst}
+use Rattle.std.proofs.Common.{◌∙◌, ◌+◌, ◌≤◌, ap, subst}
 use Rattle.rule_history.specs.Answered.{tables_of}
 use Rattle.rule_history.specs.History.{Snapshot}
-use Rattle.follow_engine.specs.Followed.{IsFollowed}
+use Rattle.follow_engine.specs.Deltas.{delta_value}
+use Rattle.follow_engine.proofs.Lasts.{changes_then, decodes_then, stands_then, tests_then}
 use Rattle.follow_engine.proofs.engine.Engine.apply.Goals as goal
 
-pub follow-requires : goal.follow-requires
-follow-requires g c = subst (λ (s : Snapshot). s.feed < 16) (sym c.in_ok-taken.ensures) c.requires.feed
+pub returns-in_err-feeds-clause-most_decoded : goal.returns-in_err-feeds-clause-most_decoded
+returns-in_err-feeds-clause-most_decoded g c = λ t h st.
+    let s : Snapshot = record { feed = c.args.feed; moment = c.args.moment; bytes = c.args.kept } in
+    subst (λ m. c.follow.new.decodes ≤ c.args.decodes.now + m) (decodes_then (tables_of c.args.self.table) c.args.self.applied s c.args.self.feeds c.stands.ensures c.requires.feed t h st) c.follow.ensures.most_decoded
+
+pub returns-clause-most_decoded : goal.returns-clause-most_decoded
+returns-clause-most_decoded g c = λ t h st.
+    let s : Snapshot = record { feed = c.args.feed; moment = c.args.moment; bytes = c.args.kept } in
+    subst (λ m. c.follow.new.decodes ≤ c.args.decodes.now + m) (decodes_then (tables_of c.args.self.table) c.args.self.applied s c.args.self.feeds c.stands.ensures c.requires.feed t h st) c.follow.ensures.most_decoded
+
+pub returns-in_err-feeds-clause-most_judged : goal.returns-in_err-feeds-clause-most_judged
+returns-in_err-feeds-clause-most_judged g c = λ t h st.
+    let s : Snapshot = record { feed = c.args.feed; moment = c.args.moment; bytes = c.args.kept } in
+    subst (λ m. c.follow.new.tests ≤ c.args.tests.now + m) (tests_then (tables_of c.args.self.table) c.args.self.applied s c.args.self.feeds c.stands.ensures c.requires.feed t h st) c.follow.ensures.most_tested
+
+pub returns-clause-most_judged : goal.returns-clause-most_judged
+returns-clause-most_judged g c = λ t h st.
+    let s : Snapshot = record { feed = c.args.feed; moment = c.args.moment; bytes = c.args.kept } in
+    subst (λ m. c.follow.new.tests ≤ c.args.tests.now + m) (tests_then (tables_of c.args.self.table) c.args.self.applied s c.args.self.feeds c.stands.ensures c.requires.feed t h st) c.follow.ensures.most_tested
+
+pub returns-clause-decoded : goal.returns-clause-decoded
+returns-clause-decoded g c = λ t h st.
+    let s : Snapshot = record { feed = c.args.feed; moment = c.args.moment; bytes = c.args.kept } in
+    c.in_ok-feeds.ensures.decoded ∙ ap (λ m. c.args.decodes.now + m) (decodes_then (tables_of c.args.self.table) c.args.self.applied s c.args.self.feeds c.stands.ensures c.requires.feed t h st)
+
+pub returns-clause-judged : goal.returns-clause-judged
+returns-clause-judged g c = λ t h st.
+    let s : Snapshot = record { feed = c.args.feed; moment = c.args.moment; bytes = c.args.kept } in
+    c.in_ok-feeds.ensures.tested ∙ ap (λ m. c.args.tests.now + m) (tests_then (tables_of c.args.self.table) c.args.self.applied s c.args.self.feeds c.stands.ensures c.requires.feed t h st)
 
 pub returns-clause-stands : goal.returns-clause-stands
-returns-clause-stands g c =
-    (subst (λ s. IsFollowed (tables_of c.args.self.table) c.args.self.applied s c.args.self.feeds c.in_ok-feeds.field-0.feeds c.in_ok-feeds.field-0.delta) c.in_ok-taken.ensures c.in_ok-feeds.ensures).stands
+returns-clause-stands g c = λ t h st.
+    let s : Snapshot = record { feed = c.args.feed; moment = c.args.moment; bytes = c.args.kept } in
+    let followed = c.in_ok-feeds.ensures.followed in
+    stands_then (tables_of c.args.self.table) c.args.self.applied s c.args.self.feeds c.in_ok-feeds.field-0.feeds followed.was followed.is followed.next t h st
 
 pub returns-clause-changes : goal.returns-clause-changes
-returns-clause-changes g c =
-    (subst (λ s. IsFollowed (tables_of c.args.self.table) c.args.self.applied s c.args.self.feeds c.in_ok-feeds.field-0.feeds c.in_ok-feeds.field-0.delta) c.in_ok-taken.ensures c.in_ok-feeds.ensures).changes
+returns-clause-changes g c = λ t h st.
+    let s : Snapshot = record { feed = c.args.feed; moment = c.args.moment; bytes = c.args.kept } in
+    let followed = c.in_ok-feeds.ensures.followed in
+    changes_then (tables_of c.args.self.table) c.args.self.applied s c.args.self.feeds c.in_ok-feeds.field-0.feeds followed.was followed.is followed.next (delta_value c.in_ok-feeds.field-0.delta) followed.change t h st

@@ -1,12 +1,9 @@
-use Rattle.std.proofs.Common.{sym, subst, refl, map, []}
 use Rattle.rule_history.specs.Answered.{tables_of}
-use Rattle.engine_laws.specs.HeldFeeds.{data_of}
-use Rattle.engine_laws.specs.Standings.{StandsFor}
-use Rattle.engine_laws.proofs.Proved.{nothing_stands}
-use Rattle.follow_engine.specs.Rooms.{held}
+use Rattle.cached_laws.specs.State.{State}
+use Rattle.follow_engine.proofs.Lasts.{nothing_at, nothing_then}
 use Rattle.follow_engine.proofs.engine.Engine.new.Goals as goal
 
 pub returns : goal.returns
 returns c =
-    subst (λ xs. StandsFor (data_of (tables_of c.args.table) 0 (map held xs)) (tables_of c.args.table) []) (sym c.new-2.ensures.items)
-    (nothing_stands (data_of (tables_of c.args.table) 0 []) refl (λ f. refl) refl)
+    let state : State = record { index = c.new.result; headers = c.new-2.result.items } in
+    nothing_then state (nothing_at c.new.result c.new-2.result.items c.new.ensures c.new-2.ensures.items) c.stands.ensures (tables_of c.args.table)

@@ -1,0 +1,14 @@
+pub mod Renewed
+pub mod Placed
+pub mod Counted
+pub mod Bounds
+pub mod Counts
+pub mod Entries
+pub mod Parts
+pub mod Step
+pub mod Passable
+pub mod Gone
+pub mod Told
+pub mod Next
+pub mod Change
+pub mod Proved

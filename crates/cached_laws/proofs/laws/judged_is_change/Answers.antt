@@ -1,0 +1,5 @@
+use Rattle.cached_laws.proofs.Proved.{judged_is_change}
+use Rattle.cached_laws.proofs.laws.judged_is_change.Goals as goal
+
+pub returns : goal.returns
+returns c = judged_is_change

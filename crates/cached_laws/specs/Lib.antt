@@ -1,0 +1,5 @@
+pub mod State
+pub mod Cached
+pub mod Keys
+pub mod Judged
+pub mod Laws

@@ -1,0 +1,20 @@
+-- How many rules are tested for the keys of a snapshot.
+use Rattle.std.specs.Prelude.{◌≡◌, ℕ, ◌+◌, ◌*◌, ◌<◌, List, length, Option}
+use Rattle.std.proofs.Common.{ap, ◌∙◌}
+use Rattle.timetable.specs.Timetables.{Tables}
+use Rattle.rule_table.specs.declared.key.EntityKey.{EntityKey}
+use Rattle.rule_history.specs.History.{Snapshot, IsTaken}
+use Rattle.engine_laws.specs.Delta.{paired_held, tested_held}
+use Rattle.engine_laws.specs.HeldFeeds.{held_after}
+use Rattle.cached_laws.specs.State.{State, IsState, feed_of}
+use Rattle.cached_laws.specs.Cached.{AreCached}
+use Rattle.cached_laws.specs.Keys.{AreTouched}
+use Rattle.cached_laws.proofs.Counts.{bounded_size, paired_size, tested_size}
+use Rattle.follow_engine.specs.Followed.{tests_owed}
+
+pub ticks_are : (state : State) (s : Snapshot) → IsState state → IsTaken s → s.feed < 16 → (t : Option Tables) (n : ℕ) → AreCached t state.index (feed_of state) → (local paired bounded : List EntityKey) → AreTouched state s local paired bounded →
+    10 + (40 * length local + 3 * length paired + 2 * length bounded) ≡ tests_owed t n s (feed_of state)
+ticks_are state s is taken fits t n cached local paired bounded touched =
+    ap (λ x. 10 + (40 * x + 3 * length paired + 2 * length bounded)) (tested_size state s is fits local touched.local_are)
+    ∙ ap (λ x. 10 + (40 * tested_held s (feed_of state) + 3 * x + 2 * length bounded)) (paired_size state s is fits paired touched.paired_are t n)
+    ∙ ap (λ x. 10 + (40 * tested_held s (feed_of state) + 3 * paired_held s (feed_of state) (held_after t n s (feed_of state)) + 2 * x)) (bounded_size state s is fits taken t n cached bounded touched.bounded_are)

@@ -1,0 +1,12 @@
+use Rattle.std.proofs.Common.{◌∙◌, List, sym, subst}
+use Rattle.rule_table.specs.declared.key.EntityKey.{EntityKey}
+use Rattle.rule_table.specs.Order.{key_cmp}
+use Rattle.rule_table.specs.Rises.{Rises}
+use Rattle.cached_laws.specs.Keys.{bytes_before}
+use Rattle.follow_engine.specs.States.{state_of}
+use Rattle.follow_engine.proofs.Replaced.{gone_rise}
+use Rattle.follow_engine.proofs.following.tell_first.Goals as goal
+
+pub close_gone-requires-clause-keys : goal.close_gone-requires-clause-keys
+close_gone-requires-clause-keys g c =
+    subst (λ (ks : List EntityKey). Rises key_cmp ks) (sym (c.as_slice-gone.ensures ∙ c.requires.coming.changes_are.gone_is)) (gone_rise c.args.taken.now.feed (bytes_before (state_of c.args.held.now) c.args.taken.now.feed) c.args.taken.now.kept)
