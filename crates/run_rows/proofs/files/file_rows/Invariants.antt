@@ -1,6 +1,6 @@
 use Rattle.std.proofs.Common.{◌≡◌, take}
-use Rattle.run_check.specs.Check.{file_rows}
-use Rattle.run_check.proofs.feeds.file_rows.Given as goal
+use Rattle.run_rows.specs.Files.{file_rows}
+use Rattle.run_rows.proofs.files.file_rows.Given as goal
 
 -- the rows of the files so far
 abbrev pub invariant-loop-index : goal.invariant-loop-index

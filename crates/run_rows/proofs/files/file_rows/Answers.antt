@@ -1,7 +1,7 @@
 use Rattle.std.proofs.Common.{◌≡◌, ◌<◌, ◌++◌, ◌∷◌, [], ◌∙◌, ap, get_or, length, subst}
 use Rattle.feed_list.specs.declared.row.ListRow.{ListRow}
-use Rattle.run_check.proofs.Together.{next_row}
-use Rattle.run_check.proofs.feeds.file_rows.Goals as goal
+use Rattle.run_rows.proofs.FileRows.{next_row}
+use Rattle.run_rows.proofs.files.file_rows.Goals as goal
 
 pub loop-index-preserved : goal.loop-index-preserved
 loop-index-preserved c =
