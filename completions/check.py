@@ -11,7 +11,7 @@ HERE = pathlib.Path(__file__).resolve().parent
 FILES = ["city", "feed.pb", "list.csv"]
 # What is typed, and what is offered.
 CASES = [
-    ("", ["check", "encode", "follow", "merge", "predict", "show", "trial", "verify"]),
+    ("", ["alerts", "check", "encode", "follow", "merge", "predict", "show", "trial", "verify"]),
     ("ch", ["check"]),
     ("check --", ["--now", "--timetable"]),
     ("check --now 5 --", ["--timetable"]),
@@ -34,6 +34,13 @@ CASES = [
     ("trial ", []),
     ("verify --", []),
     ("verify li", ["list.csv"]),
+    ("alerts --", ["--agency", "--now", "--route", "--stop", "--trip"]),
+    ("alerts --stop S1 --", ["--now"]),
+    ("alerts --now 5 --", ["--agency", "--route", "--stop", "--trip"]),
+    ("alerts --route ", []),
+    ("alerts --trip T1 fe", ["feed.pb"]),
+    ("alerts --trip T1 feed.pb li", ["list.csv"]),
+    ("alerts --trip T1 feed.pb --", []),
     ("wrong --", []),
 ]
 
