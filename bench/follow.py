@@ -6,8 +6,11 @@ of ten of them, of which a few change each time; then 2,000 entities in each fee
 with 300,000 updates that each break a rule, twice in a row; and last 10,000 and 40,000 rows over three small snapshots. The lists of 40 and 160 snapshots show what a history costs. The
 program is crates/rt_command/out/rt_command by default. Each row is the best of three runs, with how many findings opened and
 how many rules closed at places.
+
+`follow.py PROGRAM each` counts instructions (by callgrind, of valgrind): what it costs that one more snapshot comes of each of two feeds, of whose entities one in a
+hundred has changed, where they have their ids in the same order, and where they come the other way round. It is the difference of two lists.
 """
-import os, tempfile
+import os, subprocess, sys, tempfile
 from measuring import best, program
 from snapshot import number, payload
 from timetable import ordinary, write
@@ -53,16 +56,16 @@ def small_vehicle(i, late):
     return payload(2, payload(1, b"p%d" % i) + payload(4, position))
 
 
-def in_turn(folder, rows, feeds, changing):
+def in_turn(folder, rows, feeds, changing, turned=False):
     """Writes a list of rows of two feeds in turn. A feed is how many entities it has and what makes one; so many of them change
-    each time."""
+    each time, or one in a hundred. Where they are turned, each snapshot has them in the other order."""
     entities = [[make(i, 0) for i in range(count)] for count, make in feeds]
     with open(os.path.join(folder, "list"), "w") as file:
         for row in range(rows):
             feed, turn = row % 2, row // 2
-            for i in range(changing if turn else 0):
+            for i in range((changing or feeds[feed][0] // 100) if turn else 0):
                 entities[feed][i] = feeds[feed][1](i, turn)
-            put(folder, file, row, feed, BEGIN + 30 * turn, b"".join(entities[feed]))
+            put(folder, file, row, feed, BEGIN + 30 * turn, b"".join(entities[feed][::-1 if turned and turn % 2 else 1]))
 
 
 def put(folder, file, row, feed, moment, entities):
@@ -110,7 +113,28 @@ def measured(name, words, folder):
     print("%-52s %8.2f %9.0f %7d %9d %9d" % (name, seconds, size, status, opened, closed), flush=True)
 
 
+def instructions(folder):
+    words = ["valgrind", "--tool=callgrind", "--callgrind-out-file=/dev/null", program(), "follow", "--timetable", folder, "--list", os.path.join(folder, "list")]
+    told = subprocess.run(words, stdout=subprocess.DEVNULL, stderr=subprocess.PIPE, text=True).stderr
+    return int([line for line in told.splitlines() if "Collected" in line][0].split(":")[1])
+
+
+def each():
+    print("%-52s %9s %26s" % ("", "order", "instructions of a pair"))
+    for name, trips, feeds in (("2 x 2000 small entities", 2000, [(2000, small_update), (2000, small_vehicle)]),
+                               ("3000 trips of 20 updates and 900 vehicles", 6000, [(3000, trip_update), (900, vehicle)])):
+        with tempfile.TemporaryDirectory() as folder:
+            table(folder, trips)
+            for order, turned in (("same", False), ("other", True)):
+                in_turn(folder, 4, feeds, None, turned)
+                less = instructions(folder)
+                in_turn(folder, 6, feeds, None, turned)
+                print("%-52s %9s %26d" % (name, order, instructions(folder) - less), flush=True)
+
+
 def main():
+    if sys.argv[2:] == ["each"]:
+        return each()
     print("%-52s %8s %9s %7s %9s %9s" % ("", "seconds", "peak MiB", "status", "opened", "closed"))
     for times in (1, 4):
         with tempfile.TemporaryDirectory() as folder:

@@ -12,7 +12,7 @@ HERE = pathlib.Path(__file__).resolve().parent
 FILES = ["city", "feed.pb", "list.csv"]
 # What is typed behind the program's name, and what is offered.
 COMMAND_CASES = [
-    ("", ["check", "encode", "follow", "merge", "predict", "show", "trial", "verify"]),
+    ("", ["alerts", "check", "encode", "follow", "merge", "predict", "show", "trial", "verify"]),
     ("ch", ["check"]),
     ("check --", ["--now", "--timetable"]),
     ("check --now 5 --", ["--timetable"]),
@@ -35,6 +35,13 @@ COMMAND_CASES = [
     ("trial ", []),
     ("verify --", []),
     ("verify li", ["list.csv"]),
+    ("alerts --", ["--agency", "--now", "--route", "--stop", "--trip"]),
+    ("alerts --stop S1 --", ["--now"]),
+    ("alerts --now 5 --", ["--agency", "--route", "--stop", "--trip"]),
+    ("alerts --route ", []),
+    ("alerts --trip T1 fe", ["feed.pb"]),
+    ("alerts --trip T1 feed.pb li", ["list.csv"]),
+    ("alerts --trip T1 feed.pb --", []),
     ("wrong --", []),
 ]
 SUMMARY_CASES = [

@@ -10,6 +10,7 @@ declare -gA _rt_command_takes=(
     [merge]='16'
     [trial]='0'
     [verify]='1'
+    [alerts]='16 --now --agency --route --trip --stop'
 )
 
 _rt_command() {
@@ -25,6 +26,7 @@ _rt_command() {
     while ((i < COMP_CWORD)); do
         case ${COMP_WORDS[i]} in
             --zone-*) used+='--zone-rule --zone-file ' i=$((i + 2)) ;;
+            --agency | --route | --trip | --stop) used+='--agency --route --trip --stop ' i=$((i + 2)) ;;
             --*) used+="${COMP_WORDS[i]} " i=$((i + 2)) ;;
             *) files=$((files + 1)) i=$((i + 1)) ;;
         esac

@@ -21,7 +21,7 @@ function __rt_command_folder
 end
 
 complete -c rt_command -n '__rt_command_value_of --timetable' -f -k -a '(__rt_command_folder)'
-complete -c rt_command -n '__rt_command_value_of --now --zone-rule' -f
+complete -c rt_command -n '__rt_command_value_of --now --zone-rule --agency --route --trip --stop' -f
 complete -c rt_command -n __fish_use_subcommand -f
 
 complete -c rt_command -n __fish_use_subcommand -a check -d 'judge snapshots'
@@ -48,3 +48,10 @@ complete -c rt_command -n __fish_use_subcommand -a trial -d 'follow two feeds ma
 complete -c rt_command -n '__fish_seen_subcommand_from trial' -f
 
 complete -c rt_command -n __fish_use_subcommand -a verify -d 'judge a report by itself'
+
+complete -c rt_command -n __fish_use_subcommand -a alerts -d 'tell which alerts are in force'
+complete -c rt_command -n '__rt_command_takes alerts --now' -a --now -d 'moment in seconds since 1970'
+complete -c rt_command -n '__rt_command_takes alerts --agency --route --trip --stop' -a --agency -d 'agency that they concern'
+complete -c rt_command -n '__rt_command_takes alerts --agency --route --trip --stop' -a --route -d 'route that they concern'
+complete -c rt_command -n '__rt_command_takes alerts --agency --route --trip --stop' -a --trip -d 'trip that they concern'
+complete -c rt_command -n '__rt_command_takes alerts --agency --route --trip --stop' -a --stop -d 'stop that they concern'

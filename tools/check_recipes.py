@@ -83,12 +83,23 @@ def vehicles(moment, step, count=20):
     return header(moment) + entities
 
 
+def alerts(moment):
+    """Alerts for a stop, one with two headlines and one that comes twice under one id; for its station, a trip, an agency and all buses."""
+    def texts(field, **said):
+        return part(field, b"".join(part(1, part(1, text) + part(2, language)) for language, text in said.items()))
+    stop, headline = part(5, part(5, "S1")), texts(10, en="Works <at> S1", de="Bauarbeiten")
+    bodies = [("works", part(1, number(1, moment) + number(2, moment + 2**33)) + stop + headline + texts(11, en="No buses & no trams")), ("works", stop),
+              ("over", part(1, number(2, moment)) + stop), ("station", part(5, part(5, "station"))), ("trip", part(5, part(4, part(1, "T1")))),
+              ("agency", part(5, part(1, "A"))), ("buses", part(5, number(3, 3)))]
+    return header(moment) + b"".join(part(2, part(1, id) + part(5, body)) for id, body in bodies)
+
+
 def timetable(folder, count=20):
     folder.mkdir(parents=True)
     lines = {
         "agency.txt": ["agency_id,agency_name,agency_url,agency_timezone", "A,City,http://localhost,Etc/UTC"],
         "routes.txt": ["route_id,route_type", *(f"R{n},3" for n in range(3))],
-        "stops.txt": ["stop_id,stop_name", *(f"S{n},Stop {n}" for n in range(3))],
+        "stops.txt": ["stop_id,stop_name,parent_station", *(f"S{n},Stop {n},{'station' if n == 1 else ''}" for n in range(3)), "station,Station,"],
         "calendar.txt": ["service_id,monday,tuesday,wednesday,thursday,friday,saturday,sunday,start_date,end_date", "daily,1,1,1,1,1,1,1,20230101,20301231"],
         "trips.txt": ["route_id,service_id,trip_id", *(f"R{n % 3},daily,T{n}" for n in range(count))],
         "stop_times.txt": ["trip_id,arrival_time,departure_time,stop_id,stop_sequence",
@@ -225,14 +236,14 @@ def blocks():
 def pieces(block):
     """A file that stands in one block with a command is told from it by an empty line."""
     parts = block.split("\n\n")
-    return ["\n\n".join(parts[:-1]), parts[-1]] if block.startswith("#!") and len(parts) > 1 and parts[-1].startswith(("find", "sbatch", "python3")) else [block]
+    return ["\n\n".join(parts[:-1]), parts[-1]] if block.startswith(("#!", "# poster.jq")) and len(parts) > 1 and parts[-1].startswith(("find", "sbatch", "python3", "jq", "timeout")) else [block]
 
 
 def file_name(block, before):
     if block.startswith("#!"):
         return re.search(r"(?m)^# ([\w.]+)", block)[1]
     named = re.search(r"(?:in a file `([\w.]+)`:|`(views\.sql)`:)$", before)
-    return named and (named[1] or named[2])
+    return named and (named[1] or named[2]) or block.startswith("# poster.jq") and "poster.jq"
 
 
 class Quiet(http.server.SimpleHTTPRequestHandler):
@@ -255,9 +266,16 @@ def slurm(block):
     return "\n".join(f"SLURM_ARRAY_TASK_COUNT=8 SLURM_ARRAY_TASK_ID={n} sh year.sbatch" for n in range(8)) + "\n" + "\n".join(block.split("\n")[1:])
 
 
+def check_poster(work):
+    """The page has each alert of the stop once, its text in the language that was asked for, made safe, and the moment of the next change."""
+    page = (work / "poster.html").read_text()
+    until = time.strftime("%Y-%m-%dT%H:%M:%SZ", time.gmtime(MOMENTS[0] + 2**33))
+    expect("poster", page.split("\n")[1:-1], ["<h2>Works &lt;at&gt; S1</h2><p>No buses &amp; no trams</p>", "<h2></h2><p></p>", f"<p>2 in force, until {until}</p>"])
+
+
 def run_page(work, run, verbose):
     count = left = 0
-    after = {"tools/days split": lambda: expect("days", len(list((work / "days").glob("*.list"))), 2)}
+    after = {"jq -rn": lambda: (work / "poster.html").exists() and check_poster(work), "tools/days split": lambda: expect("days", len(list((work / "days").glob("*.list"))), 2)}
     for block, before in ((piece, before) for whole, before in blocks() for piece in pieces(whole)):
         name = file_name(block, before)
         first = block.split("\n", 1)[0]
@@ -316,6 +334,7 @@ def main():
             for step, moment in enumerate(MOMENTS):
                 (work / "archive/coast" / name / f"{moment}.pb").write_bytes(make(moment, step))
             (work / f"{name}.pb").write_bytes(make(MOMENTS[0], 0))
+        (work / "alerts.pb").write_bytes(alerts(MOMENTS[0]))
         for n in range(20):
             (work / "part").mkdir(exist_ok=True)
             (work / f"part/{n:02}.pb").write_bytes(trips(MOMENTS[0], n, 2))

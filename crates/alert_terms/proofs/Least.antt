@@ -1,14 +1,13 @@
 -- The next change is the least bound after a moment.
 use Rattle.std.proofs.Common.{◌≡◌, ℕ, zero, suc, ◌+◌, ◌≤◌, ◌<◌, nat_lt, Bool, true, false, cond, List, [], ◌∷◌, ◌++◌, length, take, get_or, Some, None, IfSome, ◌⊎◌, inl, inr, refl, sym, subst, ap, ◌∙◌, append-nil, arith}
 use Rattle.std.specs.declared.option.Option.{Option}
-use Rattle.std.specs.List.{AllByRecursion, Contains, filter, flat_map, list_any}
+use Rattle.std.specs.List.{AllByRecursion, Contains, filter, flat_map}
 use Rattle.std.proofs.lemmas.Bool.Decides.{nat_tests}
 use Rattle.std.proofs.lemmas.List.{take_more}
 use Rattle.std.proofs.lemmas.List.Concat.{flat_map-append}
 use Rattle.std.proofs.lemmas.List.Elements.{filter-append}
 use Rattle.std.proofs.lemmas.List.Sums.{fold-append}
-use Rattle.alert_terms.specs.declared.period.Period.{Period}
-use Rattle.alert_terms.specs.InForce.{all_bounds, earliest, is_active, is_open, lesser}
+use Rattle.alert_terms.specs.InForce.{all_bounds, earliest, lesser}
 use Rattle.alert_terms.specs.Laws.{NextIsLeast}
 
 some_same : (m n : ℕ) → Some m ≡ Some n → m ≡ n
@@ -180,8 +179,3 @@ next_more f before moment xs i d old new l first next =
     ∙ ap (λ o. earliest o (filter (nat_lt moment) (f (get_or xs i d)))) first
     ∙ sym (fold-append (λ o n. Some (lesser o n)) before (filter (nat_lt moment) (flat_map f (take i xs))) (filter (nat_lt moment) (f (get_or xs i d))))
     ∙ ap (earliest before) (sym (filter-append (nat_lt moment) (flat_map f (take i xs)) (f (get_or xs i d))) ∙ ap (filter (nat_lt moment)) (flat_more f xs i d l))
-
--- ---- where there is a period, one of them has to be open
-pub some_active : (moment : ℕ) (ps : List Period) → 1 ≤ length ps → list_any (is_open moment) ps ≡ is_active moment ps
-some_active moment [] l = absurd (omega (arith, l))
-some_active moment (p ∷ ps) l = refl

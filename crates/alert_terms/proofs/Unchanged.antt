@@ -3,10 +3,9 @@ use Rattle.std.proofs.Common.{◌≡◌, ℕ, ◌≤◌, ◌<◌, nat_lt, nat_le
 use Rattle.std.specs.declared.option.Option.{Option}
 use Rattle.std.specs.List.{AllByRecursion, cons_option, filter, flat_map, list_any}
 use Rattle.std.proofs.lemmas.Bool.Decides.{nat_tests}
-use Rattle.alert_terms.specs.declared.kept.KeptAlert.{KeptAlert}
 use Rattle.alert_terms.specs.declared.period.Period.{Period}
 use Rattle.alert_terms.specs.declared.query.Query.{Query}
-use Rattle.alert_terms.specs.InForce.{all_bounds, bounds_in, bounds_of, concerns, has_begun, is_active, is_in_force, is_open, lasts}
+use Rattle.alert_terms.specs.InForce.{Terms, all_bounds, bounds_in, bounds_of, concerns, has_begun, is_active, is_in_force, is_open, lasts}
 use Rattle.alert_terms.specs.Laws.{NothingChangesBeforeNext}
 use Rattle.alert_terms.proofs.Least.{under_each, where_after}
 
@@ -65,7 +64,7 @@ module _ (moment later : ℕ) (on : moment ≤ later) where
   active_same [] h = refl
   active_same (p ∷ ps) h = any_same (p ∷ ps) h
 
-  filter_same : (query : Query) (alerts : List KeptAlert) → AllByRecursion Apart (all_bounds alerts) → filter (is_in_force later query) alerts ≡ filter (is_in_force moment query) alerts
+  filter_same : (query : Query) (alerts : List Terms) → AllByRecursion Apart (all_bounds alerts) → filter (is_in_force later query) alerts ≡ filter (is_in_force moment query) alerts
   filter_same query [] h = refl
   filter_same query (a ∷ alerts) h =
       ap (λ b. cond (b && concerns query a.selectors) (a ∷ filter (is_in_force later query) alerts) (filter (is_in_force later query) alerts))

@@ -7,11 +7,24 @@ use Rattle.std.specs.Option.{option_and_then}
 use Rattle.feed_values.specs.Schema.{Value}
 use Rattle.feed_values.specs.Messages.{alert, entity, entity_selector, time_range, trip_descriptor}
 use Rattle.rule_table.specs.declared.key.EntityKey.{EntityKey}
-use Rattle.alert_terms.specs.declared.kept.KeptAlert.{KeptAlert}
 use Rattle.alert_terms.specs.declared.period.Period.{Period}
 use Rattle.alert_terms.specs.declared.query.Query.{Query}
 use Rattle.alert_terms.specs.declared.query.Query.TheVariants.{Agency, Route, Trip, Stop}
-use Rattle.alert_terms.specs.declared.selector.Selector.{Selector}
+
+-- ---- an alert, as far as it is looked at
+-- the ids of an entity selector, and the route that its trip names
+pub record Selector : Type 0 where
+  pub agency_id : Option (List ℕ)
+  pub route_id : Option (List ℕ)
+  pub trip_id : Option (List ℕ)
+  pub trip_route_id : Option (List ℕ)
+  pub stop_id : Option (List ℕ)
+
+-- the key of its entity, when it is shown, and whom it concerns
+pub record Terms : Type 0 where
+  pub key : EntityKey
+  pub periods : List Period
+  pub selectors : List Selector
 
 -- ---- when: an alert is active in each of its periods, and where it has none as long as it is in the feed
 -- a period without a start has begun always, and one without an end lasts
@@ -47,20 +60,20 @@ abbrev pub concerns : Query → List Selector → Bool
 concerns query selectors = list_any (selects query) selectors
 
 -- ---- the answer: the keys of all alerts that are active and concern whom is asked for, in the order of the alerts
-abbrev pub is_in_force : ℕ → Query → KeptAlert → Bool
+abbrev pub is_in_force : ℕ → Query → Terms → Bool
 is_in_force moment query a = is_active moment a.periods && concerns query a.selectors
 
-abbrev pub in_force : ℕ → Query → List KeptAlert → List EntityKey
+abbrev pub in_force : ℕ → Query → List Terms → List EntityKey
 in_force moment query alerts = map (λ a. a.key) (filter (is_in_force moment query) alerts)
 
 -- ---- the next change: the least start or end after a moment, of all periods of all alerts
 abbrev pub bounds_of : Period → List ℕ
 bounds_of p = cons_option p.start (cons_option p.end [])
 
-abbrev pub bounds_in : KeptAlert → List ℕ
+abbrev pub bounds_in : Terms → List ℕ
 bounds_in a = flat_map bounds_of a.periods
 
-abbrev pub all_bounds : List KeptAlert → List ℕ
+abbrev pub all_bounds : List Terms → List ℕ
 all_bounds alerts = flat_map bounds_in alerts
 
 -- the lesser of a number, if there is one, and of another
@@ -72,7 +85,7 @@ lesser (Some m) n = if nat_lt n m then n else m
 abbrev pub earliest : Option ℕ → List ℕ → Option ℕ
 earliest before ns = fold (λ o n. Some (lesser o n)) before ns
 
-abbrev pub next_change : ℕ → List KeptAlert → Option ℕ
+abbrev pub next_change : ℕ → List Terms → Option ℕ
 next_change moment alerts = earliest None (filter (nat_lt moment) (all_bounds alerts))
 
 -- ---- what of an alert is looked at
@@ -99,12 +112,8 @@ selector_of s = record {
   stop_id = s.1.1.1.1.0;
 }
 
--- a selector without fields has no ids
-abbrev pub no_ids : Selector
-no_ids = record { agency_id = None; route_id = None; trip_id = None; trip_route_id = None; stop_id = None }
-
-abbrev pub kept_of : EntityKey → Value alert → KeptAlert
-kept_of key a = record { key = key; periods = map period_of a.0; selectors = map selector_of a.1.0 }
+abbrev pub terms_of : EntityKey → Value alert → Terms
+terms_of key a = record { key = key; periods = map period_of a.0; selectors = map selector_of a.1.0 }
 
 -- ---- the alerts of entities
 abbrev pub alert_of : Value entity → Option (Value alert)
@@ -114,5 +123,5 @@ alert_of e = e.1.1.1.1.0
 abbrev pub KeyedEntity : Type 0
 KeyedEntity = EntityKey × Value entity
 
-abbrev pub alerts_in : List KeyedEntity → List KeptAlert
-alerts_in es = filter_map (λ e. option_map (kept_of e.0) (alert_of e.1)) es
+abbrev pub alerts_in : List KeyedEntity → List Terms
+alerts_in es = filter_map (λ e. option_map (terms_of e.0) (alert_of e.1)) es

@@ -5,19 +5,16 @@
 //!
 //! - `query`: for whom it is asked
 //! - `period`: a stretch of time in which an alert is shown
-//! - `selector`: the ids of whom an alert concerns
-//! - `kept`: an alert, as far as it is looked at
+//! - `terms`: an alert, as far as it is looked at
 //! - `laws`: that the next change is the least of those to come, and that nothing changes before it
 #![tactic(auto)]
 
-mod kept;
 mod laws;
 mod period;
 mod query;
-mod selector;
+mod terms;
 
-pub use kept::KeptAlert;
 pub use laws::{next_is_least, nothing_changes_before_next};
 pub use period::Period;
 pub use query::Query;
-pub use selector::Selector;
+pub use terms::AlertTerms;

@@ -1,9 +1,10 @@
 //! For whom alerts are asked.
-ghost use Rattle.std.specs.Prelude.{◌≡◌};
-ghost use Rattle.alert_terms.specs.InForce.{gives, selects};
+ghost use Rattle.std.specs.Prelude.{◌≡◌, option_map};
+ghost use Rattle.std.specs.Option.{option_and_then};
+ghost use Rattle.feed_values.specs.Views.{entity_selector_value, trip_descriptor_value};
+ghost use Rattle.alert_terms.specs.InForce.{gives, selector_of, selects, trip_id_of, trip_route_of};
 
-use crate::selector::Selector;
-use feed_values::Text;
+use feed_values::{Boxed, EntitySelector, Text, TripDescriptor};
 
 /// For whom alerts are asked, by an id as in the timetable.
 #[derive(Debug, Drop)]
@@ -16,16 +17,25 @@ pub enum Query {
 }
 
 impl Query {
-    /// Whether a selector has the id. Its other fields don't matter.
-    pub fn selects(&self, selector: &Selector) -> bool
-        ensures { result ≡ selects self.now selector.now }
+    /// Whether a selector has the id. Its other fields don't matter. (GTFS Realtime Reference 2.0, "EntitySelector" and
+    /// "TripDescriptor".)
+    pub fn selects(&self, selector: &Boxed<EntitySelector>) -> bool
+        ensures { result ≡ selects self.now (selector_of (entity_selector_value selector.now)) }
+    {
+        match selector.get() {
+            Some(selector) => self.selects_given(selector),
+            None => false,
+        }
+    }
+
+    // Whether a selector that has some field has the id.
+    fn selects_given(&self, selector: &EntitySelector) -> bool
+        ensures { result ≡ selects self.now (selector_of (entity_selector_value selector.now)) }
     {
         match self {
             Query::Agency(id) => gives(&selector.agency_id, id),
-            Query::Route(id) => {
-                gives(&selector.route_id, id) || gives(&selector.trip_route_id, id)
-            }
-            Query::Trip(id) => gives(&selector.trip_id, id),
+            Query::Route(id) => gives(&selector.route_id, id) || gives_route(&selector.trip, id),
+            Query::Trip(id) => gives_trip(&selector.trip, id),
             Query::Stop(id) => gives(&selector.stop_id, id),
         }
     }
@@ -37,6 +47,32 @@ fn gives(given: &Option<Text>, id: &Text) -> bool
 {
     match given {
         Some(given) => given == id,
+        None => false,
+    }
+}
+
+// Whether a trip is given by this id.
+fn gives_trip(trip: &Option<Boxed<TripDescriptor>>, id: &Text) -> bool
+    ensures { result ≡ gives (option_and_then trip_id_of (option_map trip_descriptor_value trip.now)) id.now }
+{
+    let Some(trip) = trip else {
+        return false;
+    };
+    match trip.get() {
+        Some(trip) => gives(&trip.trip_id, id),
+        None => false,
+    }
+}
+
+// Whether a trip is given, and its route by this id.
+fn gives_route(trip: &Option<Boxed<TripDescriptor>>, id: &Text) -> bool
+    ensures { result ≡ gives (option_and_then trip_route_of (option_map trip_descriptor_value trip.now)) id.now }
+{
+    let Some(trip) = trip else {
+        return false;
+    };
+    match trip.get() {
+        Some(trip) => gives(&trip.route_id, id),
         None => false,
     }
 }

@@ -8,7 +8,7 @@ ghost use Rattle.follow_engine.specs.Engines.{engine_data};
 ghost use Rattle.follow_engine.specs.Entities.{entities_after, entities_held};
 ghost use Rattle.alert_terms.specs.InForce.{alerts_in, in_force, next_change};
 
-use alert_terms::{KeptAlert, Query};
+use alert_terms::{AlertTerms, Query};
 use feed_values::{Entity, Items};
 use follow_engine::Engine;
 use rule_table::EntityKey;
@@ -17,28 +17,28 @@ use std::marker::Model;
 
 /// The alerts of the last snapshots of all feeds, in the order of their keys. Contracts see it as the list of them.
 #[derive(Drop)]
-pub struct AlertView {
-    alerts: Items<KeptAlert>,
+pub struct AlertView<'a> {
+    alerts: Items<AlertTerms<'a>>,
 }
 
-impl Model for AlertView {
+impl<'a> Model for AlertView<'a> {
     ghost use Rattle.std.specs.Prelude.{List};
-    ghost use Rattle.alert_terms.specs.declared.kept.KeptAlert.{KeptAlert as Kept};
+    ghost use Rattle.alert_terms.specs.InForce.{Terms};
 
-    ghost Value = { List Kept };
+    ghost Value = { List Terms };
 
     ghost view = { λ s. s.alerts };
 }
 
-impl AlertView {
+impl<'a> AlertView<'a> {
     /// Takes the alerts of the entities that an engine holds, which are those of every history that it stands for.
-    pub fn new(alloc: Global, engine: &Engine) -> Result<AlertView, AllocError>
+    pub fn new(alloc: Global, engine: &'a Engine) -> Result<AlertView<'a>, AllocError>
         ensures held { IfOk result (λ view. view ≡ alerts_in (entities_held engine.now.feeds)) }
         ensures after { (t : Option Tables) (h : List Snapshot) → StandsFor (engine_data engine.now) t h → entities_held engine.now.feeds ≡ entities_after h }
     {
         let mut alerts = Items::new(alloc);
         for (key, entity) in engine.entities() {
-            push_alert(alloc, &mut alerts, key, entity)?;
+            push_alert(&mut alerts, key, entity)?;
         }
         Ok(AlertView { alerts })
     }
@@ -55,7 +55,7 @@ impl AlertView {
         let mut keys = Items::new(alloc);
         for alert in self.alerts.as_slice() {
             if alert.is_in_force(moment, query) {
-                keys.push(alert.key.clone(alloc)?)?;
+                keys.push(alert.key().clone(alloc)?)?;
             }
         }
         Ok(keys)
@@ -75,16 +75,15 @@ impl AlertView {
 }
 
 // Adds the alert of an entity, if it has one.
-fn push_alert(
-    alloc: Global,
-    alerts: &mut Items<KeptAlert>,
-    key: &EntityKey,
-    entity: &Entity,
+fn push_alert<'a>(
+    alerts: &mut Items<AlertTerms<'a>>,
+    key: &'a EntityKey,
+    entity: &'a Entity,
 ) -> Result<(), AllocError>
     ensures { OnOk result (alerts.new ≡ alerts.old ++ alerts_in ((key.now, entity_value entity.now) ∷ [])) }
 {
     match &entity.alert {
-        Some(alert) => Ok(alerts.push(KeptAlert::of(alloc, key, alert)?)?),
+        Some(alert) => Ok(alerts.push(AlertTerms::new(key, alert))?),
         None => Ok(()),
     }
 }

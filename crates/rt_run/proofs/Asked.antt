@@ -16,6 +16,9 @@ use Rattle.run_base.specs.Report.{Report}
 use Rattle.run_base.proofs.Carried.{nothing}
 use Rattle.run_base.proofs.Chosen.{all}
 use Rattle.run_base.proofs.Told.{tells_more}
+use Rattle.std.specs.List.{Contains}
+use Rattle.alert_terms.specs.declared.query.Query.{Query}
+use Rattle.run_alerts.specs.Alerts.{alerts_report}
 use Rattle.run_check.specs.Check.{IsInput, check_report}
 use Rattle.run_follow.specs.Follow.{IsFollowed, follow_report}
 use Rattle.run_predict.specs.Predicted.{IsPredictInput, IsPredictReport}
@@ -46,6 +49,11 @@ one_predicted told zone moment now f g m a b before after result folder at file 
     subst (λ x. CarriesOut (IsPredictReport x zone (unwrap_or moment now) b) (IsPredictInput x zone b) before after result) folder
     (subst (λ x. CarriesOut (IsPredictReport f zone (unwrap_or moment now) x) (IsPredictInput f zone x) before after result) file
     (subst (λ x. CarriesOut (IsPredictReport f zone x a) (IsPredictInput f zone a) before after result) at one))
+
+-- of an equal moment
+pub alerts_at : (m n : ℕ) (query : Query) (files : List (List ℕ)) (before after : Outside) (result : Status) → m ≡ n →
+    CarriesOut (exactly (alerts_report m query files)) (Contains files) before after result → CarriesOut (exactly (alerts_report n query files)) (Contains files) before after result
+alerts_at m n query files before after result moment = subst (λ x. CarriesOut (exactly (alerts_report x query files)) (Contains files) before after result) moment
 
 -- ---- what was carried out is told
 pub tells_asked : (asked : Request) (found : Option Request) (now : ℕ) (reads : List ℕ → Type 0) (before after : Outside) (result : Status) → Some asked ≡ found →

@@ -2,7 +2,7 @@
 use Rattle.std.specs.Prelude.{◌≡◌, ℕ, List, [], ◌∷◌, ◌⊎◌, length, Option, Some, None, Contains, ⊤}
 use Rattle.rt_outside.specs.Store.{Contents}
 use Rattle.run_words.specs.declared.request.Request.{Request}
-use Rattle.run_words.specs.declared.request.Request.TheVariants.{Check, Follow, Predict, Show, Encode, Merge, Trial, Verify}
+use Rattle.run_words.specs.declared.request.Request.TheVariants.{Check, Follow, Predict, Show, Encode, Merge, Trial, Verify, Alerts}
 use Rattle.run_base.specs.declared.status.Status.{Status}
 use Rattle.run_base.specs.declared.status.Status.TheVariants as answer
 use Rattle.run_base.specs.Faults.{IsErrorText}
@@ -24,6 +24,7 @@ Reads (Some (Encode file)) told name = Contains (file ∷ []) name
 Reads (Some (Merge files)) told name = Contains files name
 Reads (Some (Trial seed)) told name = IsTrialFile name
 Reads (Some (Verify file)) told name = Contains (file ∷ []) name
+Reads (Some (Alerts now query files)) told name = Contains files name
 
 -- the requests that no engine serves; one file is checked without one
 abbrev pub IsWithoutEngine : Option Request → Type 0
@@ -36,6 +37,7 @@ IsWithoutEngine (Some (Encode file)) = ⊤
 IsWithoutEngine (Some (Merge files)) = ⊤
 IsWithoutEngine (Some (Trial seed)) = ⊥
 IsWithoutEngine (Some (Verify file)) = ⊤
+IsWithoutEngine (Some (Alerts now query files)) = ⊥
 
 -- the answers where the words give no request
 abbrev pub IsWithoutRequest : Status → Type 0

@@ -10,6 +10,7 @@ ghost use Rattle.rt_run.specs.Reads.{IsRunText, IsWithoutEngine, IsWithoutReques
 ghost use Rattle.rt_run.specs.Reported.{IsAsked, IsReport};
 
 use rt_outside::{Files, Sink, Steps};
+use run_alerts::alerts;
 use run_base::{Status, say, say_memory};
 use run_check::check;
 use run_follow::follow;
@@ -30,14 +31,15 @@ const USAGE: &[u8] = b"usage: rt_command check [--timetable DIR] [--now N] FILE.
        rt_command trial N
        rt_command verify REPORT
        rt_command merge FILE...
+       rt_command alerts [--now N] (--agency ID | --route ID | --trip ID | --stop ID) FILE...
 ";
 
 /// Carries out the request of the words after the program's name, at the moment `now`, as POSIX
 /// time in seconds.
 ///
 /// Want of memory is the one answer that may come at any time. The two counters, of decodings and
-/// of rule tests, are handed to the engine that follows feeds, which judges all of them but a single
-/// file of `check`.
+/// of rule tests, are handed to the engine that follows feeds: that of `follow`, `trial`, `alerts` and of
+/// `check` of several files.
 pub fn run<F: Files, S: Sink, E: Sink, D: Ledger, T: Ledger>(
     alloc: Global,
     words: &[String],
@@ -145,5 +147,13 @@ fn carry_out<F: Files, S: Sink, E: Sink, D: Ledger, T: Ledger>(
         Request::Merge { files: names } => merge(alloc, names, files, out, err),
         Request::Trial { seed } => trial(alloc, *seed, out, err, decodes, tests),
         Request::Verify { file } => verify(alloc, file.as_str(), files, out, err),
+        Request::Alerts {
+            now: moment,
+            query,
+            files: names,
+        } => {
+            let moment = moment.unwrap_or(now);
+            alerts(alloc, moment, query, names, files, out, err, decodes, tests)
+        }
     }
 }

@@ -25,8 +25,9 @@ use Rattle.run_base.specs.declared.status.Status.TheVariants as answer
 use Rattle.rt_report.specs.FindingLines.{standing_text, finding_text, is_error, has_error, any_error}
 use Rattle.run_snapshot.specs.Reports.{accepted_report, accepted_text as first_text, snapshot_findings}
 use Rattle.run_base.specs.Report.{Report, file_report, found, judged_report, refused_report, snapshot_report}
-use Rattle.run_check.specs.Check.{checked, files_report, file_rows}
-use Rattle.run_rows.specs.Rows.{Outcome, accepted_text, all_rows, row_outcome, taken}
+use Rattle.run_check.specs.Check.{all_findings, files_report}
+use Rattle.run_rows.specs.Files.{ended}
+use Rattle.run_rows.specs.Rows.{accepted_text, row_outcome, taken}
 use Rattle.run_base.specs.Found.{bytes_in, unless_faulty}
 use Rattle.run_snapshot.proofs.Reports.{as_many}
 use Rattle.run_rows.proofs.RowByRow.{then-none}
@@ -61,7 +62,7 @@ module _ (t : Option Tables) where
   nothing_stands : standings t [] ≡ []
   nothing_stands = ap (map (standing t [])) (no_findings t feed_limit)
 
-  refused_is : (why : Refusal) → checked t (record { text = line_of (refused 0 why); after = []; error = true }) ≡ refused_report why
+  refused_is : (why : Refusal) → ended (all_findings t) (record { text = line_of (refused 0 why); after = []; error = true }) ≡ refused_report why
   refused_is why =
       same_report _ _ (ap (λ xs. line_of (refused 0 why) ++ flat_map (standing_text line.Finding) xs) nothing_stands ∙ append-nil (line_of (refused 0 why))) refl refl
 
@@ -87,7 +88,7 @@ module _ (t : Option Tables) (moment : ℕ) (file bytes : List ℕ) where
       counts d.entities d.tested d.paired d.bounded (length (entities_of bytes)) many (first_is_new.all_tested first feed_fits ∙ many) (first_is_new.all_paired first feed_fits ∙ many)
       (first_is_new.all_bounded t first feed_fits ∙ many) d.opened d.closed
 
-  accepted_is : checked t (row_outcome Counts t [] 0 row (Ok bytes)) ≡ accepted_report t moment bytes
+  accepted_is : ended (all_findings t) (row_outcome Counts t [] 0 row (Ok bytes)) ≡ accepted_report t moment bytes
   unfolding snapshot_findings
   accepted_is =
       same_report _ _
@@ -97,14 +98,14 @@ module _ (t : Option Tables) (moment : ℕ) (file bytes : List ℕ) where
 
 -- ---- a file
 module _ (t : Option Tables) (moment : ℕ) (file : List ℕ) where
-  at_fault : (bytes : List ℕ) (why : Option Refusal) → checked t (row_outcome Counts t [] 0 (row t moment file bytes) (unless_faulty bytes why)) ≡ judged_report (accepted_report t moment) bytes why
+  at_fault : (bytes : List ℕ) (why : Option Refusal) → ended (all_findings t) (row_outcome Counts t [] 0 (row t moment file bytes) (unless_faulty bytes why)) ≡ judged_report (accepted_report t moment) bytes why
   at_fault bytes (Some why) = refused_is t why
   at_fault bytes None = accepted_is t moment file bytes
 
-  held_is : (held : Option (List ℕ)) → checked t (row_outcome Counts t [] 0 (record { feed = 0; moment = moment; path = file }) (bytes_in held)) ≡ snapshot_report (accepted_report t moment) held
+  held_is : (held : Option (List ℕ)) → ended (all_findings t) (row_outcome Counts t [] 0 (record { feed = 0; moment = moment; path = file }) (bytes_in held)) ≡ snapshot_report (accepted_report t moment) held
   held_is None = refused_is t (refused_at 0 NoFile)
   held_is (Some bytes) = at_fault bytes (refusal bytes)
 
   -- the report on one file is that on its snapshot by itself
   pub one_file : (contents : Contents) → file_report (accepted_report t moment) file contents ≡ files_report t moment (file ∷ []) contents
-  one_file contents = sym (ap (checked t) (then-none (row_outcome Counts t [] 0 (record { feed = 0; moment = moment; path = file }) (bytes_in (get contents file)))) ∙ held_is (get contents file))
+  one_file contents = sym (ap (ended (all_findings t)) (then-none (row_outcome Counts t [] 0 (record { feed = 0; moment = moment; path = file }) (bytes_in (get contents file)))) ∙ held_is (get contents file))

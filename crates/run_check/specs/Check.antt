@@ -1,31 +1,27 @@
 -- What `check` is to write and to answer, and which files it reads. (This profile.)
-use Rattle.std.specs.Prelude.{ℕ, ◌+◌, ◌||◌, List, [], ◌∷◌, ◌++◌, ◌⊎◌, Contains, Option}
+use Rattle.std.specs.Prelude.{◌≡◌, ℕ, Bool, List, ◌⊎◌, Contains, Option}
+use Rattle.std.specs.Io.KnownBytes.{append_known}
 use Rattle.rt_outside.specs.Store.{Contents}
 use Rattle.timetable.specs.Timetables.{Tables}
-use Rattle.feed_list.specs.declared.row.ListRow.{ListRow}
+use Rattle.rule_history.specs.History.{Snapshot}
+use Rattle.rule_history.specs.Standing.{Standing}
 use Rattle.engine_laws.specs.Computed.{standings}
 use Rattle.rt_report.specs.FindingLines.{all_text, any_error}
-use Rattle.run_base.specs.Report.{Report, found}
+use Rattle.run_base.specs.Report.{Report}
 use Rattle.run_timetable.specs.Timetables.{IsTableFile, with_timetable}
-use Rattle.run_rows.specs.declared.telling.Telling.TheVariants.{Counts}
-use Rattle.run_rows.specs.Rows.{Outcome, all_rows}
+use Rattle.run_rows.specs.Files.{Ending, files_ended}
 
--- files as rows: a feed for each, and one moment for all
-abbrev pub file_rows : ℕ → ℕ → List (List ℕ) → List ListRow
-file_rows feed moment [] = []
-file_rows feed moment (file ∷ files) = record { feed = feed; moment = moment; path = file } ∷ file_rows (feed + 1) moment files
+-- the lines of findings
+abbrev pub findings_ending : List Standing → Ending
+findings_ending list = record { text = all_text list; error = any_error list }
 
--- the report of `check` on rows: behind the lines of all files stand all findings
-abbrev pub checked : Option Tables → Outcome → Report
-checked t o = record {
-  text = o.text ++ all_text (standings t o.after);
-  errors = [];
-  status = found (o.error || any_error (standings t o.after));
-}
+-- those of all findings on a history
+abbrev pub all_findings : Option Tables → List Snapshot → Ending
+all_findings t h = findings_ending (standings t h)
 
--- the report on files, which are snapshots of as many feeds, at one moment
+-- the report on files, which are snapshots of as many feeds, at one moment: behind the lines of all files stand all findings
 abbrev pub files_report : Option Tables → ℕ → List (List ℕ) → Contents → Report
-files_report t moment files contents = checked t (all_rows Counts t contents (file_rows 0 moment files))
+files_report t moment files contents = files_ended (all_findings t) t moment files contents
 
 abbrev pub check_report : Option (List ℕ) → ℕ → List (List ℕ) → Contents → Report
 check_report folder moment files = with_timetable (λ t. files_report t moment files) folder
@@ -34,3 +30,9 @@ check_report folder moment files = with_timetable (λ t. files_report t moment f
 -- a file that `check` reads: one of those that are named, or one of the timetable's folder
 abbrev pub IsInput : Option (List ℕ) → List (List ℕ) → List ℕ → Type 0
 IsInput folder names name = Contains names name ⊎ IsTableFile folder name
+
+-- ---- in the code
+-- the lines of findings were written, and it is said whether one is of an error
+pub record AreWritten (list : List Standing) (before now : Option (List ℕ)) (error : Bool) : Type 0 where
+  pub written : now ≡ append_known before (all_text list)
+  pub error_is : error ≡ any_error list

@@ -4,7 +4,7 @@ ghost use Rattle.rt_outside.specs.Causes.{Rose};
 ghost use Rattle.rt_outside.specs.Sink.{AppendsPrefix};
 ghost use Rattle.follow_engine.specs.Engines.{engine_data};
 ghost use Rattle.rt_report.specs.FindingLines.{all_text};
-ghost use Rattle.run_check.specs.Waiting.{AreWritten};
+ghost use Rattle.run_check.specs.Check.{AreWritten};
 
 use follow_engine::Engine;
 use rt_outside::{Sink, put_all};

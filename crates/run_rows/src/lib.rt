@@ -1,17 +1,21 @@
-//! Snapshots that are taken one after the other, as `follow` and `check` of several files take them.
+//! Snapshots that are taken one after the other, as `follow`, `check` of several files and `alerts` take them.
 //!
-//! `specs/Rows.antt` says what rows give: their lines, the history after them, and whether an error was told.
+//! `specs/Rows.antt` says what rows give: their lines, the history after them, and whether an error was told. `specs/Files.antt` says so
+//! of files, behind whose lines a command writes an ending of its own.
 //!
 //! - `telling`: what is told of an accepted snapshot
 //! - `changes`: the lines of what a snapshot opened and closed
 //! - `row`: one row's snapshot, put into the engine
 //! - `rows`: all of them
+//! - `files`: the snapshots of files, each of a feed of its own
 #![tactic(auto)]
 
 mod changes;
+mod files;
 mod row;
 mod rows;
 mod telling;
 
+pub use files::take_files;
 pub use rows::{RowFault, RowsEnd, either, follow_rows, say_row_fault};
 pub use telling::Telling;

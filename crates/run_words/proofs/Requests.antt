@@ -8,13 +8,14 @@ use Rattle.std.specs.List.{list_all}
 use Rattle.std.proofs.lemmas.List.{take_all}
 use Rattle.std.specs.Str.{bytes_eq}
 use Rattle.feed_list.specs.Values.{is_path, path_of, number_of}
+use Rattle.alert_terms.specs.declared.query.Query.{Query}
 use Rattle.run_words.specs.declared.command.Command.{Command}
 use Rattle.run_words.specs.declared.command.Command.TheVariants as command
 use Rattle.run_words.specs.declared.request.Request.{Request}
-use Rattle.run_words.specs.declared.request.Request.TheVariants.{Check, Follow, Predict, Show, Encode, Merge, Trial, Verify}
+use Rattle.run_words.specs.declared.request.Request.TheVariants.{Check, Follow, Predict, Show, Encode, Merge, Trial, Verify, Alerts}
 use Rattle.run_words.specs.declared.options.Options.{Options}
 use Rattle.run_words.specs.declared.zone_word.ZoneWord.{ZoneWord}
-use Rattle.run_words.specs.Words.{request, no_options, are_files, check_of, file_limit, files_in, follow_of, predict_of, predicted, one_file, asked_of, options_of, file_of, merge_of, trial_of, with_option, NamesFiles}
+use Rattle.run_words.specs.Words.{alerts_asked, alerts_of, request, no_options, are_files, check_of, file_limit, files_in, follow_of, predict_of, predicted, one_file, asked_of, options_of, file_of, merge_of, trial_of, with_option, NamesFiles}
 
 -- ---- a request names no more files than there are feeds
 either_of : (b : Bool) (so other : Option Request) (asked : Request) → (Some asked ≡ so → NamesFiles asked) → (Some asked ≡ other → NamesFiles asked)
@@ -63,11 +64,11 @@ given_has false ask words asked has e = none asked e
 
 check_has : (options : Options) (files : List (List ℕ)) (asked : Request) → Some asked ≡ check_of options files → NamesFiles asked
 check_has options files asked e =
-    either_of (is_none options.list && is_none options.zone) (option_map (Check options.folder options.moment) (files_in files)) None asked
+    either_of (is_none options.list && (is_none options.zone && is_none options.query)) (option_map (Check options.folder options.moment) (files_in files)) None asked
     (given_has (are_files files) (Check options.folder options.moment) files asked (few_files files)) (none asked) e
 
 follow_has : (options : Options) (files : List (List ℕ)) (asked : Request) → Some asked ≡ follow_of options files → NamesFiles asked
-follow_has options [] asked e = either_of (is_none options.moment && is_none options.zone) (option_map (Follow options.folder) options.list) None asked (mapped_has (Follow options.folder) (λ text. tt) options.list asked) (none asked) e
+follow_has options [] asked e = either_of (is_none options.moment && (is_none options.zone && is_none options.query)) (option_map (Follow options.folder) options.list) None asked (mapped_has (Follow options.folder) (λ text. tt) options.list asked) (none asked) e
 follow_has options (file ∷ files) asked e = none asked e
 
 predicted_has : (folder : Option (List ℕ)) (zone : Option ZoneWord) (moment : Option ℕ) (file : List ℕ) (asked : Request) → Some asked ≡ predicted folder zone moment file → NamesFiles asked
@@ -81,13 +82,29 @@ of_file_has (Some file) folder zone moment asked e = predicted_has folder zone m
 
 predict_has : (options : Options) (files : List (List ℕ)) (asked : Request) → Some asked ≡ predict_of options files → NamesFiles asked
 predict_has options files asked e =
-    either_of (is_none options.list) (option_and_then (predicted options.folder options.zone options.moment) (one_file files)) None asked
+    either_of (is_none options.list && is_none options.query) (option_and_then (predicted options.folder options.zone options.moment) (one_file files)) None asked
     (of_file_has (one_file files) options.folder options.zone options.moment asked) (none asked) e
+
+-- whose alerts are asked for
+alerts_asked_has : (moment : Option ℕ) (who : Option Query) (files : List (List ℕ)) (asked : Request) → length files ≤ file_limit → Some asked ≡ alerts_asked moment who files → NamesFiles asked
+alerts_asked_has moment None files asked few e = none asked e
+alerts_asked_has moment (Some who) files asked few e = of_same asked (Alerts moment who files) few e
+
+of_files_has : (b : Bool) (moment : Option ℕ) (who : Option Query) (files : List (List ℕ)) (asked : Request) → (b ≡ true → length files ≤ file_limit) →
+    Some asked ≡ option_and_then (alerts_asked moment who) (if b then Some files else None) → NamesFiles asked
+of_files_has true moment who files asked few e = alerts_asked_has moment who files asked (few refl) e
+of_files_has false moment who files asked few e = none asked e
+
+alerts_has : (options : Options) (files : List (List ℕ)) (asked : Request) → Some asked ≡ alerts_of options files → NamesFiles asked
+alerts_has options files asked e =
+    either_of (is_none options.folder && (is_none options.list && is_none options.zone)) (option_and_then (alerts_asked options.moment options.query) (files_in files)) None asked
+    (of_files_has (are_files files) options.moment options.query files asked (few_files files)) (none asked) e
 
 asked_has : (name : Command) (options : Options) (files : List (List ℕ)) (asked : Request) → Some asked ≡ asked_of name options files → NamesFiles asked
 asked_has command.Check options files asked e = check_has options files asked e
 asked_has command.Follow options files asked e = follow_has options files asked e
 asked_has command.Predict options files asked e = predict_has options files asked e
+asked_has command.Alerts options files asked e = alerts_has options files asked e
 
 options_has : (name : Command) (options : Options) (words : List (List ℕ)) (asked : Request) → Some asked ≡ options_of name options words → NamesFiles asked
 options_has name options [] asked e = asked_has name options [] asked e
@@ -121,7 +138,8 @@ request_names_files (name ∷ words) asked e =
     (either_of (bytes_eq name (codes "encode")) (file_of Encode words) _ asked (file_has Encode (λ file. tt) words asked)
     (either_of (bytes_eq name (codes "merge")) (merge_of words) _ asked (merge_has words asked)
     (either_of (bytes_eq name (codes "trial")) (trial_of words) _ asked (trial_has words asked)
-    (either_of (bytes_eq name (codes "verify")) (file_of Verify words) None asked (file_has Verify (λ file. tt) words asked) (none asked)))))))) e
+    (either_of (bytes_eq name (codes "verify")) (file_of Verify words) _ asked (file_has Verify (λ file. tt) words asked)
+    (either_of (bytes_eq name (codes "alerts")) (options_of command.Alerts no_options words) None asked (options_has command.Alerts no_options words asked) (none asked))))))))) e
 
 -- ---- words behind options
 -- fewer than two words hold no option and its value

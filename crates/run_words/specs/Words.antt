@@ -3,16 +3,18 @@ use Rattle.std.specs.Prelude.{⊤, ◌≡◌, ◌≤◌, ℕ, List, [], ◌∷�
 use Rattle.std.specs.List.{list_all}
 use Rattle.std.specs.Str.{bytes_eq}
 use Rattle.feed_list.specs.Values.{is_path, path_of, number_of}
+use Rattle.alert_terms.specs.declared.query.Query.{Query}
+use Rattle.alert_terms.specs.declared.query.Query.TheVariants as query
 use Rattle.run_words.specs.declared.command.Command.{Command}
 use Rattle.run_words.specs.declared.command.Command.TheVariants as command
 use Rattle.run_words.specs.declared.options.Options.{Options}
 use Rattle.run_words.specs.declared.zone_word.ZoneWord.{ZoneWord}
 use Rattle.run_words.specs.declared.zone_word.ZoneWord.TheVariants.{Rule, File}
 use Rattle.run_words.specs.declared.request.Request.{Request}
-use Rattle.run_words.specs.declared.request.Request.TheVariants.{Check, Follow, Predict, Show, Encode, Merge, Trial, Verify}
+use Rattle.run_words.specs.declared.request.Request.TheVariants.{Check, Follow, Predict, Show, Encode, Merge, Trial, Verify, Alerts}
 
 abbrev pub no_options : Options
-no_options = record { folder = None; moment = None; list = None; zone = None }
+no_options = record { folder = None; moment = None; list = None; zone = None; query = None }
 
 -- ---- the options with one more; each may be given once
 -- a value, unless one was given before
@@ -32,13 +34,24 @@ with_list options list = option_map (λ l. record options { list = Some l }) (on
 abbrev pub with_zone : Options → ZoneWord → Option Options
 with_zone options zone = option_map (λ z. record options { zone = Some z }) (once options.zone zone)
 
+abbrev pub with_query : Options → Query → Option Options
+with_query options asked = option_map (λ q. record options { query = Some q }) (once options.query asked)
+
+-- an option whose value is the id of whom alerts are asked for
+abbrev pub with_id : Options → List ℕ → List ℕ → Option Options
+with_id options name id =
+    if bytes_eq name (codes "--agency") then with_query options (query.Agency id)
+    else (if bytes_eq name (codes "--route") then with_query options (query.Route id)
+    else (if bytes_eq name (codes "--trip") then with_query options (query.Trip id)
+    else (if bytes_eq name (codes "--stop") then with_query options (query.Stop id) else None)))
+
 -- an option whose value is a text
 abbrev pub with_text : Options → List ℕ → List ℕ → Option Options
 with_text options name text =
     if bytes_eq name (codes "--timetable") then with_folder options text
     else (if bytes_eq name (codes "--list") then with_list options text
     else (if bytes_eq name (codes "--zone-rule") then with_zone options (Rule text)
-    else (if bytes_eq name (codes "--zone-file") then with_zone options (File text) else None)))
+    else (if bytes_eq name (codes "--zone-file") then with_zone options (File text) else with_id options name text)))
 
 -- An option and its value: a number behind `--now`, and behind others a text that isn't empty and doesn't begin with a dash.
 abbrev pub with_option : Options → List ℕ → List ℕ → Option Options
@@ -53,7 +66,7 @@ one_file [] = None
 one_file (file ∷ []) = path_of file
 one_file (file ∷ more ∷ words) = None
 
--- the most files that `check` and `merge` take, each the snapshot of a feed
+-- the most files that `check`, `merge` and `alerts` take, each the snapshot of a feed
 abbrev pub file_limit : ℕ
 file_limit = 16
 
@@ -66,22 +79,32 @@ abbrev pub files_in : List (List ℕ) → Option (List (List ℕ))
 files_in words = if are_files words then Some words else None
 
 abbrev pub check_of : Options → List (List ℕ) → Option Request
-check_of options files = if is_none options.list && is_none options.zone then option_map (Check options.folder options.moment) (files_in files) else None
+check_of options files = if is_none options.list && (is_none options.zone && is_none options.query) then option_map (Check options.folder options.moment) (files_in files) else None
+
+abbrev pub follow_asked : Options → Option Request
+follow_asked options = if is_none options.moment && (is_none options.zone && is_none options.query) then option_map (Follow options.folder) options.list else None
 
 abbrev pub follow_of : Options → List (List ℕ) → Option Request
-follow_of options [] = if is_none options.moment && is_none options.zone then option_map (Follow options.folder) options.list else None
+follow_of options [] = follow_asked options
 follow_of options (file ∷ files) = None
 
 abbrev pub predicted : Option (List ℕ) → Option ZoneWord → Option ℕ → List ℕ → Option Request
 predicted folder zone moment file = option_and_then (λ f. option_map (λ z. Predict f z moment file) zone) folder
 
 abbrev pub predict_of : Options → List (List ℕ) → Option Request
-predict_of options files = if is_none options.list then option_and_then (predicted options.folder options.zone options.moment) (one_file files) else None
+predict_of options files = if is_none options.list && is_none options.query then option_and_then (predicted options.folder options.zone options.moment) (one_file files) else None
+
+abbrev pub alerts_asked : Option ℕ → Option Query → List (List ℕ) → Option Request
+alerts_asked moment asked files = option_map (λ q. Alerts moment q files) asked
+
+abbrev pub alerts_of : Options → List (List ℕ) → Option Request
+alerts_of options files = if is_none options.folder && (is_none options.list && is_none options.zone) then option_and_then (alerts_asked options.moment options.query) (files_in files) else None
 
 abbrev pub asked_of : Command → Options → List (List ℕ) → Option Request
 asked_of command.Check options files = check_of options files
 asked_of command.Follow options files = follow_of options files
 asked_of command.Predict options files = predict_of options files
+asked_of command.Alerts options files = alerts_of options files
 
 -- The request of a command and what stands behind some of its options: further options, each before its value, and then the
 -- words that are no options.
@@ -117,7 +140,8 @@ request (name ∷ words) =
     else (if bytes_eq name (codes "encode") then file_of Encode words
     else (if bytes_eq name (codes "merge") then merge_of words
     else (if bytes_eq name (codes "trial") then trial_of words
-    else (if bytes_eq name (codes "verify") then file_of Verify words else None)))))))
+    else (if bytes_eq name (codes "verify") then file_of Verify words
+    else (if bytes_eq name (codes "alerts") then options_of command.Alerts no_options words else None))))))))
 
 -- a request whose feeds can be numbered
 abbrev pub NamesFiles : Request → Type 0
@@ -129,3 +153,4 @@ NamesFiles (Encode file) = ⊤
 NamesFiles (Merge files) = length files ≤ file_limit
 NamesFiles (Trial seed) = ⊤
 NamesFiles (Verify file) = ⊤
+NamesFiles (Alerts now query files) = length files ≤ file_limit

@@ -6,4 +6,5 @@ pub enum Command {
     Check,
     Follow,
     Predict,
+    Alerts,
 }

@@ -1,9 +1,10 @@
 //! The options of a command line.
 ghost use Rattle.std.specs.Prelude.{◌≡◌, IfOk};
 ghost use Rattle.feed_list.specs.Values.{path_of};
-ghost use Rattle.run_words.specs.Words.{no_options, once, with_folder, with_moment, with_list, with_zone, with_text, with_option};
+ghost use Rattle.run_words.specs.Words.{no_options, once, with_folder, with_moment, with_list, with_zone, with_query, with_id, with_text, with_option};
 
 use crate::zone_word::ZoneWord;
+use alert_terms::Query;
 use feed_list::{is_path, number_of};
 use feed_values::Text;
 use std::alloc::{AllocError, Global};
@@ -19,6 +20,8 @@ pub struct Options {
     pub list: Option<Text>,
     /// The zone whose clocks the times of the timetable are those of.
     pub zone: Option<ZoneWord>,
+    /// For whom alerts are asked.
+    pub query: Option<Query>,
 }
 
 impl Options {
@@ -31,6 +34,7 @@ impl Options {
             moment: None,
             list: None,
             zone: None,
+            query: None,
         }
     }
 
@@ -63,6 +67,23 @@ impl Options {
             self.with_zone(ZoneWord::Rule(text))
         } else if name == "--zone-file" {
             self.with_zone(ZoneWord::File(text))
+        } else {
+            self.with_id(name, text)
+        }
+    }
+
+    // The options with the one of this name, whose value is the id of whom alerts are asked for.
+    fn with_id(self, name: &str, id: Text) -> Option<Options>
+        ensures { result ≡ with_id self name.now id }
+    {
+        if name == "--agency" {
+            self.with_query(Query::Agency(id))
+        } else if name == "--route" {
+            self.with_query(Query::Route(id))
+        } else if name == "--trip" {
+            self.with_query(Query::Trip(id))
+        } else if name == "--stop" {
+            self.with_query(Query::Stop(id))
         } else {
             None
         }
@@ -104,6 +125,16 @@ impl Options {
         let zone = once(&self.zone, zone)?;
         Some(Options {
             zone: Some(zone),
+            ..self
+        })
+    }
+
+    fn with_query(self, query: Query) -> Option<Options>
+        ensures { result ≡ with_query self query }
+    {
+        let query = once(&self.query, query)?;
+        Some(Options {
+            query: Some(query),
             ..self
         })
     }

@@ -1,6 +1,7 @@
 //! What a command line asks for.
 
 use crate::zone_word::ZoneWord;
+use alert_terms::Query;
 use feed_values::{Items, Text};
 
 /// What the words of a command line ask for.
@@ -50,5 +51,14 @@ pub enum Request {
     /// To judge each line of the report in this file by itself.
     Verify {
         file: Text,
+    },
+    /// To tell which alerts of the snapshots in these files, one feed each, are in force for whom is asked for, and when that can
+    /// change next.
+    ///
+    /// `now` is the moment at which they are to be in force, as POSIX time in seconds, in place of the clock's.
+    Alerts {
+        now: Option<u64>,
+        query: Query,
+        files: Items<Text>,
     },
 }

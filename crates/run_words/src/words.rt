@@ -1,17 +1,18 @@
 //! The words of a command line.
 ghost use Rattle.std.specs.Prelude.{◌≡◌, IfOk, ◌∷◌, map, option_map, string_bytes};
-ghost use Rattle.run_words.specs.Words.{asked_of, check_of, files_in, follow_of, predict_of, predicted, one_file, options_of, file_of, merge_of, trial_of, request};
+ghost use Rattle.run_words.specs.Words.{alerts_asked, alerts_of, asked_of, check_of, files_in, follow_asked, follow_of, predict_of, predicted, one_file, options_of, file_of, merge_of, trial_of, request};
 ghost use Rattle.run_words.specs.declared.request.Request.TheVariants.{Show, Encode, Verify};
 
 use crate::command::Command;
 use crate::options::{Options, path_of};
 use crate::request::Request;
 use crate::zone_word::ZoneWord;
+use alert_terms::Query;
 use feed_list::{is_path, number_of};
 use feed_values::{Items, Text};
 use std::alloc::{AllocError, Global};
 
-/// The most files that `check` and `merge` take.
+/// The most files that `check`, `merge` and `alerts` take.
 const FILE_LIMIT: usize = 16;
 
 /// The request of the words after the program's name, or none where they give no request.
@@ -19,9 +20,10 @@ const FILE_LIMIT: usize = 16;
 /// These are `check` with 1 to 16 files, and before them `--timetable` with a folder and `--now` with a moment;
 /// `follow` with `--list` and a file, and `--timetable` with a folder; `predict` with one file, and before it `--timetable`
 /// with a folder, one of `--zone-rule` with a text and `--zone-file` with a file, and `--now` with a moment; `show` and
-/// `encode`, each with one file; `trial` with a number; `verify` with one file; and `merge` with 1 to 16 files. Options stand before the
-/// files in any order, each at most once. A number has 1 to 20 digits, and its value fits 64 bits. No file and no value of an option is
-/// empty or begins with a dash.
+/// `encode`, each with one file; `trial` with a number; `verify` with one file; `merge` with 1 to 16 files; and `alerts` with 1 to 16
+/// files, and before them one of `--agency`, `--route`, `--trip` and `--stop` with an id, and `--now` with a moment. Options stand
+/// before the files in any order, each at most once. A number has 1 to 20 digits, and its value fits 64 bits. No file and no value of
+/// an option is empty or begins with a dash.
 pub fn words_of(alloc: Global, words: &[String]) -> Result<Option<Request>, AllocError>
     ensures { IfOk result (λ found. found ≡ request (map string_bytes words.now)) }
 {
@@ -51,6 +53,8 @@ fn request_of(alloc: Global, command: &str, words: &[String]) -> Result<Option<R
         Ok(trial_of(words))
     } else if command == "verify" {
         Ok(file_of(alloc, words)?.map(|file| Request::Verify { file }))
+    } else if command == "alerts" {
+        options_of(alloc, Command::Alerts, Options::none(), words)
     } else {
         Ok(None)
     }
@@ -144,6 +148,7 @@ fn asked_of(
         Command::Check => check_of(alloc, options, files),
         Command::Follow => Ok(follow_of(options, files)),
         Command::Predict => predict_of(alloc, options, files),
+        Command::Alerts => alerts_of(alloc, options, files),
     }
 }
 
@@ -154,7 +159,7 @@ fn check_of(
 ) -> Result<Option<Request>, AllocError>
     ensures { IfOk result (λ found. found ≡ check_of options (map string_bytes files.now)) }
 {
-    if options.list.is_some() || options.zone.is_some() {
+    if options.list.is_some() || options.zone.is_some() || options.query.is_some() {
         return Ok(None);
     }
     let Some(files) = files_of(alloc, files)? else {
@@ -170,7 +175,17 @@ fn check_of(
 fn follow_of(options: Options, files: &[String]) -> Option<Request>
     ensures { result ≡ follow_of options (map string_bytes files.now) }
 {
-    if options.moment.is_some() || options.zone.is_some() || !files.is_empty() {
+    match files {
+        [] => follow_asked(options),
+        _ => None,
+    }
+}
+
+// The request of `follow` with these options, of which it wants a list.
+fn follow_asked(options: Options) -> Option<Request>
+    ensures { result ≡ follow_asked options }
+{
+    if options.moment.is_some() || options.zone.is_some() || options.query.is_some() {
         return None;
     }
     let list = options.list?;
@@ -187,7 +202,7 @@ fn predict_of(
 ) -> Result<Option<Request>, AllocError>
     ensures { IfOk result (λ found. found ≡ predict_of options (map string_bytes files.now)) }
 {
-    if options.list.is_some() {
+    if options.list.is_some() || options.query.is_some() {
         return Ok(None);
     }
     let Some(file) = file_of(alloc, files)? else {
@@ -213,4 +228,28 @@ fn predicted(
         now,
         file,
     })
+}
+
+fn alerts_of(
+    alloc: Global,
+    options: Options,
+    files: &[String],
+) -> Result<Option<Request>, AllocError>
+    ensures { IfOk result (λ found. found ≡ alerts_of options (map string_bytes files.now)) }
+{
+    if options.folder.is_some() || options.list.is_some() || options.zone.is_some() {
+        return Ok(None);
+    }
+    let Some(files) = files_of(alloc, files)? else {
+        return Ok(None);
+    };
+    Ok(alerts_asked(options.moment, options.query, files))
+}
+
+// The request of `alerts` with these options, of which it wants one that says for whom.
+fn alerts_asked(now: Option<u64>, query: Option<Query>, files: Items<Text>) -> Option<Request>
+    ensures { result ≡ alerts_asked now query files }
+{
+    let query = query?;
+    Some(Request::Alerts { now, query, files })
 }

@@ -3,7 +3,7 @@ use Rattle.rt_outside.specs.Store.{contents_told}
 use Rattle.run_json.specs.Reports.{shown_report, encode_report}
 use Rattle.run_base.specs.Report.{file_report}
 use Rattle.run_verify.specs.Verified.{verify_report}
-use Rattle.rt_run.proofs.Asked.{carried_at, carried_listed, one_predicted}
+use Rattle.rt_run.proofs.Asked.{alerts_at, carried_at, carried_listed, one_predicted}
 use Rattle.run_base.proofs.Chosen.{carried_name}
 use Rattle.rt_run.proofs.running.carry_out.Goals as goal
 
@@ -34,3 +34,7 @@ returns-in-Trial-clause-carried g c = rw c.in-Trial.is (c.trial.ensures (g.F.Fil
 
 pub returns-in-Verify-clause-carried : goal.returns-in-Verify-clause-carried
 returns-in-Verify-clause-carried g c = rw c.in-Verify.is (carried_name verify_report _ _ _ _ c.verify.result c.as_str-in-Verify.ensures c.verify.ensures)
+
+pub returns-in-Alerts-clause-carried : goal.returns-in-Alerts-clause-carried
+returns-in-Alerts-clause-carried g c =
+    rw c.in-Alerts.is (alerts_at c.unwrap_or-moment-in-Alerts.result _ _ _ _ _ c.alerts.result c.unwrap_or-moment-in-Alerts.ensures c.alerts.ensures)
