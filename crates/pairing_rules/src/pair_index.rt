@@ -1,5 +1,5 @@
 //! The pairing rows of all entities.
-ghost use Rattle.std.specs.Prelude.{◌≡◌, ◌&&◌, [], IfOk};
+ghost use Rattle.std.specs.Prelude.{◌≡◌, ◌+◌, ◌*◌, ◌<◌, ◌≤◌, ◌&&◌, [], IfOk, true, false};
 ghost use Rattle.std.specs.List.{list_any};
 ghost use Rattle.std.specs.BTreeSet.{insert_key};
 ghost use Rattle.std.specs.BTreeMap.{is_at};
@@ -26,6 +26,14 @@ use std::alloc::{AllocError, Global};
 use std::collections::{BTreeMap, BTreeSet};
 use std::marker::Model;
 use std::rc::Rc;
+
+/// Whether more numbers are given than so many rows are to have: twice as many as there are rows, and 1024.
+fn is_crowded(rows: usize, numbers: usize) -> bool
+    ensures crowded { 2 * rows + 1024 < numbers → result ≡ true }
+    ensures roomy { numbers ≤ 2 * rows + 1024 → result ≡ false }
+{
+    rows.saturating_mul(2).saturating_add(1024) < numbers
+}
 
 /// A set of pairing rows, which contracts see as the list of its rows: those of trip updates and then those of vehicle
 /// positions, each by feed, id and occurrence. Ids keep their numbers when their rows are taken out, until those without a row are
@@ -83,7 +91,7 @@ impl PairIndex {
         ensures rows { IfOk result (λ index. index ≡ insert_key row_cmp self (pair_row row)) }
         ensures ordered { IfOk result (λ index. IsStrictlySortedBy row_cmp index) }
     {
-        if self.is_crowded() {
+        if is_crowded(self.seats.len(), self.number_count()) {
             let index = self.again()?;
             let next = index.put(row)?;
             return Ok(next);
@@ -92,10 +100,11 @@ impl PairIndex {
         Ok(next)
     }
 
-    /// Whether ids without a row are more than the others, and more than a thousand.
-    fn is_crowded(&self) -> bool {
-        let most = self.seats.len().saturating_mul(2).saturating_add(1024);
-        self.ids.count() > most || self.trips.count() > most || self.vehicles.count() > most
+    /// How many texts have numbers: the ids of entities, the trip ids or the vehicle ids, whichever are most. Those without a row count until the
+    /// rows are numbered anew.
+    pub fn number_count(&self) -> usize {
+        let trips_or_vehicles = self.trips.count().max(self.vehicles.count());
+        self.ids.count().max(trips_or_vehicles)
     }
 
     /// The same rows, whose ids alone have numbers.

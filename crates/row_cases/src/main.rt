@@ -6,6 +6,7 @@
 //! - `held`: the asks of rows and timestamps
 //! - `coming`: what comes into an index of entities
 //! - `indexes`: the asks of such an index
+//! - `numbers`: the asks of the numbers that pairing rows' ids have
 #![tactic(auto)]
 
 mod coming;
@@ -13,9 +14,11 @@ mod entities;
 mod held;
 mod indexes;
 mod keys;
+mod numbers;
 
 use crate::held::HeldAsks;
 use crate::indexes::IndexAsks;
+use crate::numbers::NumberAsks;
 use cases::{Asked, judge, say, word_list};
 use std::alloc::{AllocError, Global};
 use std::{env, fs, io};
@@ -26,17 +29,22 @@ struct RowAsks {
     alloc: Global,
     held: HeldAsks,
     index: IndexAsks,
+    numbers: NumberAsks,
 }
 
 impl Asked for RowAsks {
     fn begin(&mut self) {
         self.held.begin();
         self.index.begin();
+        self.numbers.begin();
     }
 
     fn answer(&mut self, ask: &str, given: &[u8], answer: &mut Vec<u8>) -> Result<(), AllocError> {
         let words = word_list(self.alloc, ask)?;
-        if self.held.answer(&words, given, answer)? || self.index.answer(&words, given, answer)? {
+        if self.held.answer(&words, given, answer)?
+            || self.index.answer(&words, given, answer)?
+            || self.numbers.answer(&words, answer)?
+        {
             return Ok(());
         }
         say(answer, "no such ask")
@@ -48,6 +56,7 @@ fn judged(alloc: Global, name: &str, text: &str) -> Result<String, AllocError> {
         alloc,
         held: HeldAsks::new(alloc),
         index: IndexAsks::new(alloc),
+        numbers: NumberAsks::new(alloc),
     };
     judge(alloc, name, text, &mut asks)
 }
