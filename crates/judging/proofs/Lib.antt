@@ -1,5 +1,5 @@
 pub mod Ruled
-pub mod Sorted
+pub mod ByRule
 pub mod OneSnapshot
 pub mod Joined
 pub mod WholeAnswer

@@ -1,10 +1,9 @@
--- The findings of rules at an entity, rule by rule, are those of all rules; and a list that is in the order of its rules is itself
--- rule by rule.
-use Rattle.std.specs.Prelude.{◌≡◌, ◌⊎◌, ℕ, ◌+◌, ◌≤◌, ◌<◌, ◌==◌, nat_le, Bool, true, false, ◌&&◌, ◌||◌, List, [], ◌∷◌, ◌++◌, filter, Option, slice_get, cond, refl}
+-- The findings of rules at an entity, rule by rule, are those of all rules.
+use Rattle.std.specs.Prelude.{◌≡◌, ℕ, ◌==◌, Bool, true, false, ◌||◌, List, [], ◌∷◌, ◌++◌, filter, Option, slice_get, cond, refl}
 use Rattle.std.specs.List.{list_all}
-use Rattle.std.proofs.Common.{inl, inr, sym, ap, ◌∙◌, arith}
+use Rattle.std.proofs.Common.{sym, ap, ◌∙◌}
 use Rattle.std.proofs.lemmas.List.Elements.{filter-append}
-use borrow.Author.Tests.{eqb-true, eqb-false, eq-eqb, ne_eqb, leb-true, leb-false, both_ways}
+use borrow.Author.Tests.{eqb-true}
 use Rattle.std.proofs.lemmas.Bool.{and_parts}
 use Rattle.std.proofs.lemmas.Option.{same_Some}
 use Rattle.feed_values.specs.declared.slot.Slot.{Slot}
@@ -14,38 +13,25 @@ use Rattle.feed_values.specs.Messages.{entity}
 use Rattle.rule_table.specs.declared.rule.RuleId.{RuleId}
 use Rattle.rule_table.specs.declared.ask.Ask.{Ask}
 use Rattle.rule_table.specs.declared.key.EntityKey.{EntityKey}
-use Rattle.rule_table.specs.EachRule.{each_rule, numbered}
+use Rattle.rule_table.specs.EachRule.{numbered}
 use Rattle.rule_table.specs.Rules.{rule_number, same_rule}
 use Rattle.rule_table.specs.Table.{all_rules, slots_of}
 use Rattle.rule_table.specs.Found.{Found}
 use Rattle.rule_table.specs.Judged.{found_in, found_by, found_all}
-use Rattle.rule_table.specs.Groups.{Each, IsOf, IsUnder, has_rule, has_number, are_apart}
+use Rattle.rule_table.specs.Groups.{IsOf, IsUnder, has_rule, has_number, are_apart}
 use Rattle.rule_table.specs.GroupLaws.{each_weaken, row_own, apart_first, apart_rest}
 use Rattle.rule_table.specs.CitedLaws.{both_same}
 use Rattle.judging.specs.Ruled.{of_rule, by_rule}
+use Rattle.judging.proofs.ByRule.{filter_when, or_false}
 
 -- ---- lists
--- a test that answers alike for all elements
-filter_when : (p : Found → Bool) (b : Bool) (fs : List Found) → Each (λ f. p f ≡ b) fs → filter p fs ≡ cond b fs []
-filter_when p true [] h = refl
-filter_when p false [] h = refl
-filter_when p true (f ∷ fs) h = ap (λ x. cond x (f ∷ filter p fs) (filter p fs)) h.0 ∙ ap (λ xs. f ∷ xs) (filter_when p true fs h.1)
-filter_when p false (f ∷ fs) h = ap (λ x. cond x (f ∷ filter p fs) (filter p fs)) h.0 ∙ filter_when p false fs h.1
-
 append_none : (fs : List Found) → (fs ++ []) ≡ fs
 append_none [] = refl
 append_none (f ∷ fs) = ap (λ xs. f ∷ xs) (append_none fs)
 
-or_false : (a b : Bool) → (a || b) ≡ false → (a ≡ false) × (b ≡ false)
-or_false true b h = cc
-or_false false b h = (refl, h)
-
 -- ---- rules by their numbers
 same_is : (q r : RuleId) → same_rule q r ≡ true → q ≡ r
 same_is q r h = same_Some q r (sym (numbered q) ∙ ap (λ n. slice_get all_rules n) (eqb-true (rule_number q) (rule_number r) h) ∙ numbered r)
-
-known : (r : RuleId) → has_rule all_rules r ≡ true
-known = each_rule (has_rule all_rules) refl
 
 abbrev is_empty : List Slot → Bool
 is_empty [] = true
@@ -101,88 +87,3 @@ module _ (answer : Ask → Option CellValue) (k : EntityKey) (e : Value entity) 
   ruled rules (r ∷ all) a h =
       let hs = and_parts (is_covered rules r) (list_all (is_covered rules) all) h in
       both_same (picked r rules a ∙ rule_is r (has_rule rules r) hs.0) (ruled rules all a hs.1)
-
--- ---- a list that is in the order of its rules
-abbrev pub InOrder : List Found → Type 0
-InOrder [] = Unit {0}
-InOrder (f ∷ fs) = Each (λ g. rule_number f.rule ≤ rule_number g.rule) fs × InOrder fs
-
--- the numbers rise from one on
-abbrev rise : ℕ → List RuleId → Bool
-rise n [] = true
-rise n (r ∷ rules) = nat_le n (rule_number r) && rise (rule_number r + 1) rules
-
-below_none : (n : ℕ) (rules : List RuleId) → rise n rules ≡ true → (m : ℕ) → m < n → has_number rules m ≡ false
-below_none n [] h m l = refl
-below_none n (r ∷ rules) h m l =
-    let hs = and_parts (nat_le n (rule_number r)) (rise (rule_number r + 1) rules) h in
-    let first : n ≤ rule_number r = leb-true n (rule_number r) hs.0 in
-    ap (λ b. b || has_number rules m) (ne_eqb (rule_number r) m (apart (rule_number r) first))
-    ∙ below_none (rule_number r + 1) rules hs.1 m (under (rule_number r) first)
-  where
-    apart : (x : ℕ) → n ≤ x → x ≡ m → ⊥
-    apart x a b = omega (arith, l)
-
-    under : (x : ℕ) → n ≤ x → m < x + 1
-    under x a = omega (arith, l)
-
-other_way : (a b : ℕ) → (a == b) ≡ false → (b == a) ≡ false
-other_way a b h = ne_eqb b a (λ e. eqb-false a b h (sym e))
-
-drop_head : (rules : List RuleId) (f : Found) (fs : List Found) → has_rule rules f.rule ≡ false → by_rule rules (f ∷ fs) ≡ by_rule rules fs
-drop_head [] f fs h = refl
-drop_head (r ∷ rules) f fs h =
-    let hs = or_false (rule_number r == rule_number f.rule) (has_rule rules f.rule) h in
-    both_same (ap (λ b. cond b (f ∷ filter (of_rule r) fs) (filter (of_rule r) fs)) (other_way (rule_number r) (rule_number f.rule) hs.0)) (drop_head rules f fs hs.1)
-
-first_stays : (n : ℕ) (rules : List RuleId) → rise n rules ≡ true → (f : Found) (fs : List Found) → has_rule rules f.rule ≡ true → Each (λ g. rule_number f.rule ≤ rule_number g.rule) fs → by_rule rules (f ∷ fs) ≡ f ∷ by_rule rules fs
-first_stays n [] h f fs has least = cc
-first_stays n (r ∷ rules) h f fs has least =
-    elim (rule_number r == rule_number f.rule) as (λ b. (rule_number r == rule_number f.rule) ≡ b → (b || has_rule rules f.rule) ≡ true → by_rule (r ∷ rules) (f ∷ fs) ≡ f ∷ by_rule (r ∷ rules) fs) [
-      | true ↦ λ e _. here (eqb-true (rule_number r) (rule_number f.rule) e)
-      | false ↦ λ e m. later e m (first_stays (rule_number r + 1) rules ((and_parts (nat_le n (rule_number r)) (rise (rule_number r + 1) rules) h).1) f fs m least)
-    ] refl has
-  where
-    rest : rise (rule_number r + 1) rules ≡ true
-    rest = (and_parts (nat_le n (rule_number r)) (rise (rule_number r + 1) rules) h).1
-
-    here : rule_number r ≡ rule_number f.rule → by_rule (r ∷ rules) (f ∷ fs) ≡ f ∷ by_rule (r ∷ rules) fs
-    here e =
-        both_same (ap (λ b. cond b (f ∷ filter (of_rule r) fs) (filter (of_rule r) fs)) (eq-eqb (rule_number f.rule) (rule_number r) (sym e)))
-        (drop_head rules f fs (below_none (rule_number r + 1) rules rest (rule_number f.rule) (under (rule_number f.rule) (rule_number r) e)))
-      where
-        under : (a b : ℕ) → b ≡ a → a < b + 1
-        under a b q = omega (arith, q)
-
-    later : (rule_number r == rule_number f.rule) ≡ false → has_rule rules f.rule ≡ true → by_rule rules (f ∷ fs) ≡ f ∷ by_rule rules fs → by_rule (r ∷ rules) (f ∷ fs) ≡ f ∷ by_rule (r ∷ rules) fs
-    later e m ih =
-        both_same (ap (λ b. cond b (f ∷ filter (of_rule r) fs) (filter (of_rule r) fs)) (other_way (rule_number r) (rule_number f.rule) e) ∙ nothing) ih
-        ∙ ap (λ xs. f ∷ (xs ++ by_rule rules fs)) (sym nothing)
-      where
-        above : (a b : ℕ) → (a + 1 ≤ b) ⊎ (b < a + 1)
-        above a b = either (nat_le (a + 1) b) refl where
-          either : (c : Bool) → nat_le (a + 1) b ≡ c → (a + 1 ≤ b) ⊎ (b < a + 1)
-          either true q = inl (leb-true (a + 1) b q)
-          either false q = inr (leb-false (a + 1) b q)
-
-        past : rule_number r + 1 ≤ rule_number f.rule
-        past = elim (above (rule_number r) (rule_number f.rule)) [
-          | inl l ↦ l
-          | inr l ↦ absurd (both_ways (has_rule rules f.rule) (below_none (rule_number r + 1) rules rest (rule_number f.rule) l) m)
-        ]
-
-        not_it : (a b c : ℕ) → a + 1 ≤ b → b ≤ c → c ≡ a → ⊥
-        not_it a b c p q x = omega arith
-
-        nothing : filter (of_rule r) fs ≡ []
-        nothing = filter_when (of_rule r) false fs (each_weaken (λ g. rule_number f.rule ≤ rule_number g.rule) (λ g. of_rule r g ≡ false)
-            (λ g l. ne_eqb (rule_number g.rule) (rule_number r) (not_it (rule_number r) (rule_number f.rule) (rule_number g.rule) past l)) fs least)
-
-pub settled : (fs : List Found) → InOrder fs → by_rule all_rules fs ≡ fs
-settled [] h = refl
-settled (f ∷ fs) h = first_stays 0 all_rules refl f fs (known f.rule) h.0 ∙ ap (λ xs. f ∷ xs) (settled fs h.1)
-
--- lists that have the same findings of each rule, in the same order
-pub same_ruled : (rules : List RuleId) (xs ys : List Found) → ((r : RuleId) → filter (of_rule r) ys ≡ filter (of_rule r) xs) → by_rule rules ys ≡ by_rule rules xs
-same_ruled [] xs ys h = refl
-same_ruled (r ∷ rules) xs ys h = both_same (h r) (same_ruled rules xs ys h)

@@ -1,5 +1,4 @@
 pub mod OneMore
-pub mod ByRule
 pub mod Places
 pub mod Moving
 pub mod Rising

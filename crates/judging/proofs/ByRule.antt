@@ -1,4 +1,4 @@
--- A stable sort by the rules' numbers puts what is of rules rule by rule.
+-- A stable sort by the rules' numbers puts what is of rules rule by rule; a list that is in the order of its rules is itself rule by rule.
 use Rattle.std.specs.Prelude.{◌≡◌, ◌⊎◌, ℕ, ◌+◌, ◌≤◌, ◌<◌, suc, ◌==◌, nat_le, nat_lt, Bool, true, false, not, ◌&&◌, ◌||◌, List, [], ◌∷◌, ◌++◌, filter, length, slice_index_or, cond, refl}
 use Rattle.std.specs.Ordering.{nat_cmp, is_lt}
 use Rattle.std.specs.List.Sorted.{ties, IsStableByKey, IsNonDecreasingBy}
@@ -12,8 +12,9 @@ use Rattle.rule_table.specs.Table.{all_rules}
 use Rattle.rule_table.specs.Groups.{Each, has_rule, has_number}
 use Rattle.rule_table.specs.GroupLaws.{each_weaken}
 use Rattle.rule_table.specs.ByRule.{each_by_rule}
+use Rattle.rule_table.specs.CitedLaws.{both_same}
 
-known : (r : RuleId) → has_rule all_rules r ≡ true
+pub known : (r : RuleId) → has_rule all_rules r ≡ true
 known = each_rule (has_rule all_rules) refl
 
 less_is : (a b : ℕ) → is_lt (nat_cmp a b) ≡ nat_lt a b
@@ -36,7 +37,7 @@ ties_are a b = ap (λ x. not x && not (is_lt (nat_cmp b a))) (less_is a b) ∙ a
     same : b ≤ a → a ≤ b → b ≡ a
     same x y = omega arith
 
-or_false : (a b : Bool) → (a || b) ≡ false → (a ≡ false) × (b ≡ false)
+pub or_false : (a b : Bool) → (a || b) ≡ false → (a ≡ false) × (b ≡ false)
 or_false true b h = cc
 or_false false b h = (refl, h)
 
@@ -62,6 +63,14 @@ below_none n (r ∷ rules) h m l =
 other_way : (a b : ℕ) → (a == b) ≡ false → (b == a) ≡ false
 other_way a b h = ne_eqb b a (λ e. eqb-false a b h (sym e))
 
+-- ---- lists of what is of rules
+-- a test that answers alike for all elements
+pub filter_when : {A : Type 0} (p : A → Bool) (b : Bool) (fs : List A) → Each (λ f. p f ≡ b) fs → filter p fs ≡ cond b fs []
+filter_when p true [] h = refl
+filter_when p false [] h = refl
+filter_when p true (f ∷ fs) h = ap (λ x. cond x (f ∷ filter p fs) (filter p fs)) h.0 ∙ ap (λ xs. f ∷ xs) (filter_when p true fs h.1)
+filter_when p false (f ∷ fs) h = ap (λ x. cond x (f ∷ filter p fs) (filter p fs)) h.0 ∙ filter_when p false fs h.1
+
 module _ {A : Type 0} (rule_of : A → RuleId) where
   abbrev of_rule : RuleId → A → Bool
   of_rule r x = same_rule (rule_of x) r
@@ -72,16 +81,6 @@ module _ {A : Type 0} (rule_of : A → RuleId) where
   abbrev pub number : A → ℕ
   number x = rule_number (rule_of x)
 
-  two : {a b c d : List A} → a ≡ b → c ≡ d → (a ++ c) ≡ (b ++ d)
-  two p q = cc
-
-  -- a test that answers alike for all elements
-  filter_when : (p : A → Bool) (b : Bool) (fs : List A) → Each (λ f. p f ≡ b) fs → filter p fs ≡ cond b fs []
-  filter_when p true [] h = refl
-  filter_when p false [] h = refl
-  filter_when p true (f ∷ fs) h = ap (λ x. cond x (f ∷ filter p fs) (filter p fs)) h.0 ∙ ap (λ xs. f ∷ xs) (filter_when p true fs h.1)
-  filter_when p false (f ∷ fs) h = ap (λ x. cond x (f ∷ filter p fs) (filter p fs)) h.0 ∙ filter_when p false fs h.1
-
   -- ---- a list that is in the order of its rules
   abbrev pub InOrder : List A → Type 0
   InOrder [] = Unit {0}
@@ -91,7 +90,7 @@ module _ {A : Type 0} (rule_of : A → RuleId) where
   drop_head [] f fs h = refl
   drop_head (r ∷ rules) f fs h =
       let hs = or_false (rule_number r == rule_number (rule_of f)) (has_rule rules (rule_of f)) h in
-      two (ap (λ b. cond b (f ∷ filter (of_rule r) fs) (filter (of_rule r) fs)) (other_way (rule_number r) (rule_number (rule_of f)) hs.0)) (drop_head rules f fs hs.1)
+      both_same (ap (λ b. cond b (f ∷ filter (of_rule r) fs) (filter (of_rule r) fs)) (other_way (rule_number r) (rule_number (rule_of f)) hs.0)) (drop_head rules f fs hs.1)
 
   first_stays : (n : ℕ) (rules : List RuleId) → rise n rules ≡ true → (f : A) (fs : List A) → has_rule rules (rule_of f) ≡ true → Each (λ g. rule_number (rule_of f) ≤ rule_number (rule_of g)) fs → by_rule rules (f ∷ fs) ≡ f ∷ by_rule rules fs
   first_stays n [] h f fs has least = cc
@@ -106,7 +105,7 @@ module _ {A : Type 0} (rule_of : A → RuleId) where
 
       here : rule_number r ≡ rule_number (rule_of f) → by_rule (r ∷ rules) (f ∷ fs) ≡ f ∷ by_rule (r ∷ rules) fs
       here e =
-          two (ap (λ b. cond b (f ∷ filter (of_rule r) fs) (filter (of_rule r) fs)) (eq-eqb (rule_number (rule_of f)) (rule_number r) (sym e)))
+          both_same (ap (λ b. cond b (f ∷ filter (of_rule r) fs) (filter (of_rule r) fs)) (eq-eqb (rule_number (rule_of f)) (rule_number r) (sym e)))
           (drop_head rules f fs (below_none (rule_number r + 1) rules rest (rule_number (rule_of f)) (under (rule_number (rule_of f)) (rule_number r) e)))
         where
           under : (a b : ℕ) → b ≡ a → a < b + 1
@@ -114,7 +113,7 @@ module _ {A : Type 0} (rule_of : A → RuleId) where
 
       later : (rule_number r == rule_number (rule_of f)) ≡ false → has_rule rules (rule_of f) ≡ true → by_rule rules (f ∷ fs) ≡ f ∷ by_rule rules fs → by_rule (r ∷ rules) (f ∷ fs) ≡ f ∷ by_rule (r ∷ rules) fs
       later e m ih =
-          two (ap (λ b. cond b (f ∷ filter (of_rule r) fs) (filter (of_rule r) fs)) (other_way (rule_number r) (rule_number (rule_of f)) e) ∙ nothing) ih
+          both_same (ap (λ b. cond b (f ∷ filter (of_rule r) fs) (filter (of_rule r) fs)) (other_way (rule_number r) (rule_number (rule_of f)) e) ∙ nothing) ih
           ∙ ap (λ xs. f ∷ (xs ++ by_rule rules fs)) (sym nothing)
         where
           above : (a b : ℕ) → (a + 1 ≤ b) ⊎ (b < a + 1)
@@ -143,7 +142,7 @@ module _ {A : Type 0} (rule_of : A → RuleId) where
   -- lists that have the same findings of each rule, in the same order
   pub same_ruled : (rules : List RuleId) (xs ys : List A) → ((r : RuleId) → filter (of_rule r) ys ≡ filter (of_rule r) xs) → by_rule rules ys ≡ by_rule rules xs
   same_ruled [] xs ys h = refl
-  same_ruled (r ∷ rules) xs ys h = two (h r) (same_ruled rules xs ys h)
+  same_ruled (r ∷ rules) xs ys h = both_same (h r) (same_ruled rules xs ys h)
 
   same_tests : (p q : A → Bool) → ((f : A) → p f ≡ q f) → (fs : List A) → filter p fs ≡ filter q fs
   same_tests p q h [] = refl
