@@ -1,7 +1,9 @@
--- Without a timetable the rules that ask it find nothing, so that the others find all.
-use Rattle.std.specs.Prelude.{◌≡◌, Bool, true, false, not, List, [], ◌∷◌, ◌++◌, None, filter, if◌then◌else◌, refl}
+-- Rules without a place at an entity find nothing there, and without a timetable neither do those that ask it: the others find all.
+use Rattle.std.specs.Prelude.{◌≡◌, Bool, true, false, not, List, [], ◌∷◌, ◌++◌, Option, None, filter, if◌then◌else◌, refl}
 use Rattle.std.proofs.Common.{ap, sym, ◌∙◌}
 use borrow.Author.Tests.{clash}
+use Rattle.feed_values.specs.declared.cell_value.CellValue.{CellValue}
+use Rattle.feed_values.specs.declared.slot.Slot.{Slot}
 use Rattle.feed_values.specs.declared.slot.Slot.TheVariants.{S3}
 use Rattle.feed_values.specs.Schema.{Value}
 use Rattle.feed_values.specs.Messages.{entity}
@@ -10,20 +12,36 @@ use Rattle.rule_table.specs.declared.ask.Ask.TheVariants as ask
 use Rattle.rule_table.specs.declared.key.EntityKey.{EntityKey}
 use Rattle.rule_table.specs.declared.rule.RuleId.{RuleId}
 use Rattle.rule_table.specs.Answers.{Heads}
-use Rattle.rule_table.specs.Judged.{found_all, found_by}
+use Rattle.rule_table.specs.Judged.{found_all, found_by, found_in}
 use Rattle.rule_table.specs.Pairs.{PairRow}
 use Rattle.rule_table.specs.Sources.{source_of}
-use Rattle.rule_table.specs.Table.{all_rules}
-use Rattle.rule_table.specs.Asks.{is_timetable}
+use Rattle.rule_table.specs.Table.{all_rules, slots_of}
+use Rattle.rule_table.specs.Asks.{has_places, has_some, is_timetable}
 use Rattle.schedule_rules.proofs.Absent.{asks_timetable, by_none}
+use Rattle.judging.specs.Ruled.{entity_rules}
 use Rattle.judging.specs.Whole.{entity_found, whole_answer}
 
 abbrev keeps : RuleId → Bool
 keeps rule = not (asks_timetable rule)
 
--- the rules that don't ask the timetable
+-- the rules at an entity that don't ask the timetable
 abbrev pub beside_timetable : List RuleId
-beside_timetable = filter keeps all_rules
+beside_timetable = filter keeps entity_rules
+
+-- ---- the rules with a place
+module _ (answer : Ask → Option CellValue) (k : EntityKey) (e : Value entity) where
+  none_in : (rule : RuleId) (slots : List Slot) → has_some slots ≡ false → found_in rule answer k e slots ≡ []
+  none_in rule [] h = refl
+  none_in rule (s ∷ slots) h = cc
+
+  placed_one : (rule : RuleId) (rules : List RuleId) (b : Bool) → has_places rule ≡ b → found_all (filter has_places rules) answer k e ≡ found_all rules answer k e
+      → found_all (if b then rule ∷ filter has_places rules else filter has_places rules) answer k e ≡ found_by rule answer k e ++ found_all rules answer k e
+  placed_one rule rules true p h = ap (λ fs. found_by rule answer k e ++ fs) h
+  placed_one rule rules false p h = h ∙ ap (λ fs. fs ++ found_all rules answer k e) (sym (none_in rule (slots_of rule) p))
+
+  pub placed : (rules : List RuleId) → found_all (filter has_places rules) answer k e ≡ found_all rules answer k e
+  placed [] = refl
+  placed (rule ∷ rules) = placed_one rule rules (has_places rule) refl (placed rules)
 
 module _ (rows : List PairRow) (heads : Heads) (k : EntityKey) (e : Value entity) where
   unanswered : (q : Ask) → is_timetable (source_of q) ≡ true → whole_answer None rows heads k e q ≡ None
@@ -56,5 +74,5 @@ module _ (rows : List PairRow) (heads : Heads) (k : EntityKey) (e : Value entity
   kept (rule ∷ rules) = one_more rule rules (asks_timetable rule) refl (kept rules)
 
   pub found_beside : found_all beside_timetable (whole_answer None rows heads k e) k e ≡ entity_found None rows heads k e
-  unfolding entity_found
-  found_beside = kept all_rules
+  unfolding entity_found entity_rules
+  found_beside = kept entity_rules ∙ placed (whole_answer None rows heads k e) k e all_rules

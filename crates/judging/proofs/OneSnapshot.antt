@@ -68,7 +68,7 @@ each_found (e ∷ es) h = (found_first e es, both es h.0 (each_found es h.1))
     both (d ∷ ds) l m = (found_later e d es l.0 m.0, both ds l.1 m.1)
 
 -- ---- by value in place of byte strings
-abbrev value_of : Keyed → Seat
+abbrev pub value_of : Keyed → Seat
 value_of e = (e.0, entity_of e.1)
 
 insert_value : (es : List Keyed) (k : EntityKey) (p : List ℕ) → map value_of (insert_entry key_cmp es k p) ≡ insert_entry key_cmp (map value_of es) k (entity_of p)
@@ -101,7 +101,7 @@ keyed_value f done (p ∷ ps) =
     (keyed_value f (done ++ p ∷ []) ps ∙ ap (λ ds. seated_after f ds (map entity_of ps)) (map_last done p))
 
 -- the entities of a snapshot by value
-seats_are : (f : ℕ) (bytes : List ℕ) → map value_of (entities_in f bytes) ≡ seats f (entities_of bytes)
+pub seats_are : (f : ℕ) (bytes : List ℕ) → map value_of (entities_in f bytes) ≡ seats f (entities_of bytes)
 seats_are f bytes =
     ordered_value [] (keyed_after f [] (entity_payloads bytes)) ∙ ap (ordered_after []) (keyed_value f [] (entity_payloads bytes))
     ∙ ap (seats f) (sym (snapshot_is_its_fields.entities bytes))

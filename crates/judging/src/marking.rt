@@ -1,6 +1,6 @@
 //! Where rules break at an entity, and the finding there. A mark takes little memory, so that an entity of very many findings
 //! can be judged without holding them.
-ghost use Rattle.std.specs.Prelude.{◌≡◌, List, IfOk, None, false, option_copied};
+ghost use Rattle.std.specs.Prelude.{◌≡◌, ◌+◌, ◌≤◌, List, IfOk, OnOk, None, false, length, option_copied};
 ghost use Rattle.std.specs.Option.{option_map};
 ghost use Rattle.feed_values.specs.Schema.{Value};
 ghost use Rattle.feed_values.specs.Messages as messages;
@@ -12,6 +12,7 @@ ghost use Rattle.rule_table.specs.Marked.{marked, marked_at};
 ghost use Rattle.rule_table.specs.Pairs.{PairRow};
 ghost use Rattle.rule_table.specs.declared.key.EntityKey.{EntityKey};
 ghost use Rattle.judging.specs.Judged.{first_answer, first_heads};
+ghost use Rattle.judging.specs.Ruled.{entity_rules};
 ghost use Rattle.judging.specs.Whole.{entity_found, whole_answer};
 
 use crate::entity_answers::EntityAnswers;
@@ -20,20 +21,65 @@ use history_rules::HeadAnswers;
 use pairing_rules::PairAnswers;
 use rt_outside::Steps;
 use rule_clear::{Clear, LocalAnswers};
-use rule_table::{
-    EntityKey, Finding, FindingList, Mark, PairView, RuleId, all_rules, judge_mark, mark_rules,
-};
+use rule_table::{EntityKey, Finding, FindingList, Mark, PairView, RuleId, judge_mark, mark_rules};
 use std::alloc::{AllocError, Global};
 use std::sync::ledger::Ledger;
 use timetable::Timetable;
 
-// Those of the table that ask the timetable for nothing.
-const RULES_BESIDE_TIMETABLE: &[RuleId] = &[
+// Those of the table that have a place at an entity.
+const ENTITY_RULES: &[RuleId] = &[
+    RuleId::E001,
+    RuleId::E002,
+    RuleId::E003,
+    RuleId::E004,
+    RuleId::E006,
+    RuleId::E009,
+    RuleId::E011,
+    RuleId::E012,
+    RuleId::E013,
+    RuleId::E015,
+    RuleId::E016,
+    RuleId::E019,
+    RuleId::E020,
+    RuleId::E021,
+    RuleId::E022,
+    RuleId::E023,
+    RuleId::E024,
+    RuleId::E025,
+    RuleId::E030,
+    RuleId::E031,
+    RuleId::E032,
+    RuleId::E033,
+    RuleId::E034,
+    RuleId::E035,
+    RuleId::E036,
+    RuleId::E037,
+    RuleId::E039,
+    RuleId::E040,
+    RuleId::E041,
+    RuleId::E042,
+    RuleId::E043,
+    RuleId::E044,
+    RuleId::E045,
+    RuleId::E046,
+    RuleId::E047,
+    RuleId::E050,
+    RuleId::E051,
+    RuleId::E052,
+    RuleId::W001,
+    RuleId::W002,
+    RuleId::W003,
+    RuleId::W005,
+    RuleId::W006,
+    RuleId::W009,
+    RuleId::X002,
+];
+
+// Those of them that ask the timetable for nothing.
+const BESIDE_TIMETABLE: &[RuleId] = &[
     RuleId::E001,
     RuleId::E002,
     RuleId::E012,
-    RuleId::E017,
-    RuleId::E018,
     RuleId::E020,
     RuleId::E021,
     RuleId::E022,
@@ -43,7 +89,6 @@ const RULES_BESIDE_TIMETABLE: &[RuleId] = &[
     RuleId::E033,
     RuleId::E036,
     RuleId::E037,
-    RuleId::E038,
     RuleId::E039,
     RuleId::E040,
     RuleId::E041,
@@ -51,30 +96,37 @@ const RULES_BESIDE_TIMETABLE: &[RuleId] = &[
     RuleId::E043,
     RuleId::E044,
     RuleId::E047,
-    RuleId::E048,
-    RuleId::E049,
     RuleId::E050,
     RuleId::E052,
     RuleId::W001,
     RuleId::W002,
     RuleId::W003,
     RuleId::W006,
-    RuleId::W007,
-    RuleId::W008,
     RuleId::W009,
     RuleId::X002,
 ];
 
-/// The rules that are to be judged with a timetable: all of them, or those that don't ask it where it is absent, since the
-/// others find nothing then.
+/// The rules that are to be judged at an entity with a timetable: all that have a place there, or those that don't ask it where it is
+/// absent, since the others find nothing then.
 fn rules_with(table: &Timetable) -> &'static [RuleId]
-    ensures { (rows : List PairRow) (heads : Heads) (key : EntityKey) (e : Value messages.entity)
+    ensures found { (rows : List PairRow) (heads : Heads) (key : EntityKey) (e : Value messages.entity)
         → found_all result.now (whole_answer (tables_of table.now) rows heads key e) key e ≡ entity_found (tables_of table.now) rows heads key e }
+    ensures within { length result.now ≤ length entity_rules }
 {
     if table.is_present() {
-        all_rules()
+        ENTITY_RULES
     } else {
-        RULES_BESIDE_TIMETABLE
+        BESIDE_TIMETABLE
+    }
+}
+
+/// Ticks for the rules at an entity beyond so many, which are known to find nothing: as if they were judged.
+fn tick_others<L: Ledger>(judged: usize, tests: &mut Steps<L>)
+    requires { judged ≤ length entity_rules }
+    ensures { tests.new + judged ≡ tests.old + length entity_rules }
+{
+    for _ in judged..ENTITY_RULES.len() {
+        tests.tick();
     }
 }
 
@@ -113,7 +165,8 @@ fn answers_at<'a, P: PairView>(
 }
 
 /// Marks where all rules break at an entity of the first snapshot of a feed, rule by rule in the order of their texts, and each
-/// by slot and index: what they mark are the findings there. It ticks once for each rule that it judges.
+/// by slot and index: what they mark are the findings there. It ticks once for each rule that has a place at entities. After want of
+/// memory it has ticked at most that often.
 pub fn marks_at<P: PairView, L: Ledger>(
     alloc: Global,
     table: &Timetable,
@@ -124,14 +177,17 @@ pub fn marks_at<P: PairView, L: Ledger>(
     entity: &Entity,
     tests: &mut Steps<L>,
 ) -> Result<Vec<Mark>, AllocError>
-    ensures { IfOk result (λ marks. marked (first_answer (tables_of table.now) (P.rows view.now) (feed_header_value header.now) moment key.now (entity_value entity.now)) key.now marks.items
+    ensures marked { IfOk result (λ marks. marked (first_answer (tables_of table.now) (P.rows view.now) (feed_header_value header.now) moment key.now (entity_value entity.now)) key.now marks.items
         ≡ entity_found (tables_of table.now) (P.rows view.now) (first_heads (feed_header_value header.now) moment) key.now (entity_value entity.now)) }
+    ensures ticked { OnOk result (tests.new ≡ tests.old + length entity_rules) }
+    ensures most { tests.new ≤ tests.old + length entity_rules }
 {
     let answers = answers_at(table, view, header, moment, key, entity);
     let clear = Clear::of(table, entity);
     let mut marks = Vec::new(alloc);
     let rules = rules_with(table);
     mark_rules(&answers, &clear, rules, key, entity, &mut marks, tests)?;
+    tick_others(rules.len(), tests);
     Ok(marks)
 }
 

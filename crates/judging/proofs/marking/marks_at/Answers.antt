@@ -1,4 +1,4 @@
-use Rattle.std.proofs.Common.{◌≡◌, ◌∙◌, [], rules, subst, sym}
+use Rattle.std.proofs.Common.{◌≡◌, ◌∙◌, [], arith, rules, subst, sym}
 use Rattle.feed_values.specs.Views.{entity_value, feed_header_value}
 use Rattle.rule_history.specs.Answered.{tables_of}
 use Rattle.rule_clear.specs.Clear.{AreClear}
@@ -19,8 +19,14 @@ mark_rules-requires g c =
     subst (λ a. AreClear a k e c.of-clear.result) (sym c.answers_at-answers.ensures.answers)
     (c.of-clear.ensures k (first_answer t rows header c.args.moment k e) (local_same t rows (first_heads header c.args.moment) k e))
 
-pub returns : goal.returns
-returns g c =
+pub returns-clause-ticked : goal.returns-clause-ticked
+returns-clause-ticked g c = omega (arith, c.in_ok-mark_rules.ensures.ticked, c.tick_others.ensures)
+
+pub returns-clause-most : goal.returns-clause-most
+returns-clause-most g c = omega (arith, c.in_ok-mark_rules.ensures.ticked, c.tick_others.ensures)
+
+pub returns-clause-marked : goal.returns-clause-marked
+returns-clause-marked g c =
     let t = tables_of c.args.table.now in
     let rows = g.P.PairView.rows c.args.view.now in
     let header = feed_header_value c.args.header.now in
@@ -29,4 +35,4 @@ returns g c =
     let none : c.new-marks.result.items ≡ [] = search rules in
     let found = rw none at c.in_ok-mark_rules.ensures.found in
     subst (λ a. marked a k c.mark_rules.new.out.items ≡ found_all c.rules_with-rules.result.now a k e) c.answers_at-answers.ensures.answers found
-    ∙ c.rules_with-rules.ensures rows (first_heads header c.args.moment) k e
+    ∙ c.rules_with-rules.ensures.found rows (first_heads header c.args.moment) k e
