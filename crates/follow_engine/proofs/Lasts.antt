@@ -15,8 +15,8 @@ use Rattle.engine_laws.proofs.Lists.{below-same}
 use Rattle.engine_laws.proofs.Proved.{counts_are_held, next_changes, next_stands, nothing_stands}
 use Rattle.entity_index.specs.Held.{HeldEntities, held_at, nothing}
 use Rattle.cached_laws.specs.State.{HeldHeader, State, IsState, feed_of, header_at, snapshot_with, whole_of}
+use Rattle.held_feeds.specs.Entities.{entities_after, entities_held, entities_said}
 use Rattle.follow_engine.specs.Engines.{lasts_of}
-use Rattle.follow_engine.specs.Entities.{entities_after, entities_held, entities_said}
 use Rattle.follow_engine.specs.Followed.{tests_of, tests_owed}
 
 -- ---- one element of each number

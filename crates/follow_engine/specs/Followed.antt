@@ -15,12 +15,12 @@ use Rattle.touched_entities.specs.Told.{FeedTold, feed_closed, feed_opened}
 use Rattle.cached_laws.specs.State.{State, IsState, feed_of}
 use Rattle.cached_laws.specs.Cached.{AreCached}
 use Rattle.cached_laws.specs.Keys.{AreTouched}
-use Rattle.follow_engine.specs.Coming.{IsComing}
+use Rattle.snapshot_steps.specs.Coming.{IsComing}
+use Rattle.snapshot_steps.specs.Moved.{IsMoved}
+use Rattle.snapshot_steps.specs.declared.touching.Touched.{Touched}
 use Rattle.follow_engine.specs.Deltas.{delta_value}
-use Rattle.follow_engine.specs.Moved.{IsMoved}
 use Rattle.follow_engine.specs.declared.delta.Delta.{Delta}
 use Rattle.follow_engine.specs.declared.following.Ready.{Ready}
-use Rattle.follow_engine.specs.declared.touching.Touched.{Touched}
 
 -- ---- how many rules are tested for a snapshot: ten on its header, and at each entity that is concerned those of the part
 -- after a history

@@ -17,24 +17,22 @@ ghost use Rattle.cached_laws.specs.State.{IsState, feed_of};
 ghost use Rattle.cached_laws.specs.Cached.{AreCached};
 ghost use Rattle.cached_laws.specs.Keys.{AreTouched, bytes_before, lasts_then};
 ghost use Rattle.cached_laws.specs.Judged.{AreFirstTold, header_then};
-ghost use Rattle.follow_engine.specs.Coming.{IsComing};
+ghost use Rattle.held_feeds.specs.States.{state_of};
+ghost use Rattle.snapshot_steps.specs.Coming.{IsComing};
+ghost use Rattle.snapshot_steps.specs.Taken.{snapshot_of};
 ghost use Rattle.follow_engine.specs.Deltas.{all_closed, all_opened};
 ghost use Rattle.follow_engine.specs.Followed.{IsFollowed, IsJudged, IsReady, tests_owed};
-ghost use Rattle.follow_engine.specs.States.{snapshot_of, state_of};
 
-use crate::coming::{Coming, come};
 use crate::delta::Delta;
-use crate::feeds::{Feeds, Header, HeldFeeds, put_header};
-use crate::moving::{Moved, move_rows};
-use crate::parts::{PartJudges, judge_parts};
-use crate::renewing::renew_header;
-use crate::rules::Judging;
-use crate::taken::Taken;
-use crate::touching::{Touched, touch};
 use entity_parts::{BoundedPart, LocalPart, PairedPart};
 use feed_values::Items;
+use held_feeds::{Feeds, Header, HeldFeeds, put_header};
 use row_changes::HeldRows;
 use rt_outside::Steps;
+use snapshot_steps::{
+    Coming, Judging, Moved, PartJudges, Taken, Touched, come, judge_parts, move_rows, renew_header,
+    touch,
+};
 use standing_walks::Standing;
 use std::alloc::{AllocError, Global};
 use std::sync::ledger::Ledger;

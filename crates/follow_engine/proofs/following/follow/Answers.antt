@@ -4,9 +4,10 @@ use Rattle.engine_laws.specs.Delta.{tested_held}
 use Rattle.cached_laws.specs.State.{State, feed_of}
 use Rattle.cached_laws.specs.Cached.{AreCached}
 use Rattle.cached_laws.proofs.Counts.{fresh_size}
+use Rattle.held_feeds.specs.States.{state_of}
+use Rattle.snapshot_steps.specs.Taken.{snapshot_of}
 use Rattle.follow_engine.specs.Deltas.{delta_value}
 use Rattle.follow_engine.specs.Followed.{IsFollowed, tests_owed}
-use Rattle.follow_engine.specs.States.{snapshot_of, state_of}
 use Rattle.follow_engine.proofs.Owed.{ticks_are}
 use Rattle.follow_engine.proofs.following.follow.Goals as goal
 

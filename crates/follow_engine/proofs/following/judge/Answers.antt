@@ -10,8 +10,9 @@ use Rattle.cached_laws.specs.Judged.{ArePassed}
 use Rattle.cached_laws.specs.Laws.{IsAtHand}
 use Rattle.cached_laws.proofs.Passable.{can_pass, in_order_held}
 use Rattle.cached_laws.proofs.Proved.{judged_is_change, judged_is_owed}
-use Rattle.follow_engine.specs.States.{snapshot_of, state_of}
-use Rattle.follow_engine.proofs.Replaced.{own_then}
+use Rattle.held_feeds.specs.States.{state_of}
+use Rattle.snapshot_steps.specs.Taken.{snapshot_of}
+use Rattle.snapshot_steps.proofs.Replaced.{own_then}
 use Rattle.follow_engine.proofs.following.judge.Goals as goal
 
 pub tell_first-requires-clause-ordered : goal.tell_first-requires-clause-ordered

@@ -3,8 +3,8 @@ use Rattle.rule_table.specs.declared.key.EntityKey.{EntityKey}
 use Rattle.rule_table.specs.Order.{key_cmp}
 use Rattle.rule_table.specs.Rises.{Rises}
 use Rattle.cached_laws.specs.Keys.{bytes_before}
-use Rattle.follow_engine.specs.States.{state_of}
-use Rattle.follow_engine.proofs.Replaced.{gone_rise}
+use Rattle.held_feeds.specs.States.{state_of}
+use Rattle.snapshot_steps.proofs.Replaced.{gone_rise}
 use Rattle.follow_engine.proofs.following.tell_first.Goals as goal
 
 pub close_gone-requires-clause-keys : goal.close_gone-requires-clause-keys

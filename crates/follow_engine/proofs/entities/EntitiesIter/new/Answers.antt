@@ -1,9 +1,0 @@
-use Rattle.std.proofs.Common.{◌∙◌, List, ap, refl}
-use Rattle.std.specs.List.{flat_map}
-use Rattle.engine_laws.specs.HeldFeeds.{HeldFeed}
-use Rattle.follow_engine.specs.Entities.{entities_said}
-use Rattle.follow_engine.proofs.Handing.{all_feeds}
-use Rattle.follow_engine.proofs.entities.EntitiesIter.new.Goals as goal
-
-pub returns : goal.returns
-returns c = ap (λ (fs : List HeldFeed). flat_map (λ feed. entities_said feed.last) fs) (c.new.ensures 256 refl) ∙ all_feeds c.args.feeds.now (λ feed. entities_said feed.last) 256 refl

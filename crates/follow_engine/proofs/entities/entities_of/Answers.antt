@@ -1,8 +1,0 @@
-use Rattle.std.proofs.Common.{◌∙◌, ap}
-use Rattle.follow_engine.specs.Entities.{entities_under}
-use Rattle.follow_engine.specs.States.{state_of}
-use Rattle.follow_engine.proofs.Handing.{under_keys}
-use Rattle.follow_engine.proofs.entities.entities_of.Goals as goal
-
-pub returns : goal.returns
-returns c = ap (entities_under (state_of c.args.held.now)) c.keys.ensures.keys ∙ under_keys c.args.held.now.index c.args.held.now.headers.items c.args.feed c.keys.ensures.entities

@@ -1,0 +1,3 @@
+pub mod Taken
+pub mod Coming
+pub mod Moved

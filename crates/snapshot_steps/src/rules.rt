@@ -1,0 +1,22 @@
+//! The groups of rules.
+
+use entity_parts::PartRules;
+use judging::AllRules;
+use std::alloc::Global;
+use timetable::Timetable;
+
+/// The groups of rules: those that are judged on headers, and the parts that are judged at entities.
+#[derive(Drop)]
+pub struct Rules {
+    pub all: AllRules,
+    pub parts: PartRules,
+}
+
+/// What a snapshot is judged with: the rules, the timetable, and how many snapshots were taken before it.
+#[derive(Clone, Copy)]
+pub struct Judging<'a> {
+    pub alloc: Global,
+    pub rules: &'a Rules,
+    pub table: &'a Timetable,
+    pub applied: u64,
+}
