@@ -11,11 +11,13 @@ ghost use Rattle.std.specs.Prelude.{◌≡◌, ◌≤◌, length};
 mod answering;
 
 use crate::answering::answered;
-use rt_outside::{MemoryFiles, MemorySink};
+use rt_outside::{MemoryFiles, MemorySink, Steps};
 use run_base::Status;
 use run_json::show;
 use run_snapshot::report_file;
 use std::alloc::{AllocError, Global};
+use std::marker::Brand;
+use std::sync::ledger::{Blank, Ledger};
 use timetable::Timetable;
 
 /// The name under which the bytes are held, which nobody sees.
@@ -34,19 +36,40 @@ fn shown(alloc: Global, bytes: &[u8], room: usize) -> Result<(Status, MemorySink
     Ok((status, out))
 }
 
-// The report of `check` on these bytes, without a timetable.
-fn checked(
+// The report of `check` on these bytes, without a timetable. Nobody asks what the counters stand at.
+fn checked<D: Ledger, T: Ledger>(
     alloc: Global,
     bytes: &[u8],
     moment: u64,
     room: usize,
-) -> Result<(Status, MemorySink), AllocError> {
+    decodes: Blank,
+    tests: Blank,
+) -> Result<(Status, MemorySink), AllocError>
+    requires decodes_name { decodes.name ≡ D.name }
+    requires decodes_parts { decodes.parts ≡ D.parts }
+    requires decodes_one { decodes.parts ≡ 1 }
+    requires tests_name { tests.name ≡ T.name }
+    requires tests_parts { tests.parts ≡ T.parts }
+    requires tests_one { tests.parts ≡ 1 }
+{
     let mut files = MemoryFiles::new(alloc);
     files.add(NAME, bytes)?;
     let mut out = MemorySink::new(alloc, room)?;
     let mut err = MemorySink::new(alloc, ERROR_ROOM)?;
     let table = Timetable::absent(alloc);
-    let status = report_file(alloc, moment, &table, NAME, &mut files, &mut out, &mut err);
+    let mut decodes: Steps<D> = Steps::new(decodes);
+    let mut tests: Steps<T> = Steps::new(tests);
+    let status = report_file(
+        alloc,
+        moment,
+        &table,
+        NAME,
+        &mut files,
+        &mut out,
+        &mut err,
+        &mut decodes,
+        &mut tests,
+    );
     Ok((status, out))
 }
 
@@ -76,5 +99,13 @@ pub extern "C" fn feed_check(
     ensures within { written.new ≤ length out.new }
     ensures kept { length out.new ≡ length out.old }
 {
-    answered(checked(alloc, bytes, moment, out.len()), out, written)
+    let made = checked::<Brand, Brand>(
+        alloc,
+        bytes,
+        moment,
+        out.len(),
+        Blank::new(1),
+        Blank::new(1),
+    );
+    answered(made, out, written)
 }

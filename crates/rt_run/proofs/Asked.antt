@@ -5,16 +5,18 @@ use Rattle.rt_outside.specs.Sink.{AppendsPrefix, SinkState}
 use Rattle.rt_outside.specs.Store.{Contents, FilesState, contents_told}
 use Rattle.rt_outside.proofs.Appends.{append_known-nil, AppendsPrefix-nothing}
 use Rattle.run_words.specs.declared.request.Request.{Request}
-use Rattle.run_words.specs.declared.request.Request.TheVariants.{Predict}
+use Rattle.run_words.specs.declared.request.Request.TheVariants.{Alerts, Check, Encode, Follow, Merge, Predict, Show, Trial, Verify}
 use Rattle.run_words.specs.declared.zone_word.ZoneWord.{ZoneWord}
 use Rattle.run_base.specs.declared.status.Status.{Status}
 use Rattle.run_base.specs.declared.status.Status.TheVariants as answer
 use Rattle.run_base.specs.Carried.{CarriesOut, Extent, TellsReport, exactly}
+use Rattle.run_base.specs.Counted.{IsCounted, Work, no_work}
 use Rattle.run_base.specs.Faults.{IsErrorText, IsReported, Says, TellsFault, TellsOneOf}
 use Rattle.run_base.specs.Outside.{Outside, outside}
 use Rattle.run_base.specs.Report.{Report}
 use Rattle.run_base.proofs.Carried.{nothing}
 use Rattle.run_base.proofs.Chosen.{all}
+use Rattle.run_base.proofs.Counted.{counted_whole, by_none}
 use Rattle.run_base.proofs.Told.{tells_more}
 use Rattle.std.specs.List.{Contains}
 use Rattle.alert_terms.specs.declared.query.Query.{Query}
@@ -22,6 +24,7 @@ use Rattle.run_alerts.specs.Alerts.{alerts_report}
 use Rattle.run_check.specs.Check.{IsInput, check_report}
 use Rattle.run_follow.specs.Follow.{IsFollowed, follow_report}
 use Rattle.run_predict.specs.Predicted.{IsPredictInput, IsPredictReport}
+use Rattle.rt_run.specs.Counted.{JudgesNothing, run_work}
 use Rattle.rt_run.specs.Reads.{IsRunText, Reads}
 use Rattle.rt_run.specs.Reported.{IsAsked, IsReportOf, usage_report, usage_text}
 
@@ -54,6 +57,27 @@ one_predicted told zone moment now f g m a b before after result folder at file 
 pub alerts_at : (m n : ℕ) (query : Query) (files : List (List ℕ)) (before after : Outside) (result : Status) → m ≡ n →
     CarriesOut (exactly (alerts_report m query files)) (Contains files) before after result → CarriesOut (exactly (alerts_report n query files)) (Contains files) before after result
 alerts_at m n query files before after result moment = subst (λ x. CarriesOut (exactly (alerts_report x query files)) (Contains files) before after result) moment
+
+-- ---- counted
+-- of equal work
+pub counted_same : (work whole : Contents → Work) (told : Option Contents) (old new : Work) (result : Status) → work ≡ whole → IsCounted work told old new result → IsCounted whole told old new result
+counted_same work whole told old new result same = subst (λ w. IsCounted w told old new result) same
+
+-- no work, and the counters stayed
+no_work_counted : (told : Option Contents) (old : Work) (result : Status) → IsCounted (λ held. no_work) told old old result
+no_work_counted told old result = counted_whole (λ held. no_work) told old old result (all told _ (λ held. by_none old))
+
+pub nothing_counted : (asked : Option Request) (now : ℕ) (told : Option Contents) (old : Work) (result : Status) → JudgesNothing asked → IsCounted (run_work asked now) told old old result
+nothing_counted None now told old result none = no_work_counted told old result
+nothing_counted (Some (Check folder moment files)) now told old result none = absurd none
+nothing_counted (Some (Follow folder list)) now told old result none = absurd none
+nothing_counted (Some (Predict folder zone moment file)) now told old result none = no_work_counted told old result
+nothing_counted (Some (Show file)) now told old result none = no_work_counted told old result
+nothing_counted (Some (Encode file)) now told old result none = no_work_counted told old result
+nothing_counted (Some (Merge files)) now told old result none = no_work_counted told old result
+nothing_counted (Some (Trial seed)) now told old result none = absurd none
+nothing_counted (Some (Verify file)) now told old result none = no_work_counted told old result
+nothing_counted (Some (Alerts moment query files)) now told old result none = absurd none
 
 -- ---- what was carried out is told
 pub tells_asked : (asked : Request) (found : Option Request) (now : ℕ) (reads : List ℕ → Type 0) (before after : Outside) (result : Status) → Some asked ≡ found →

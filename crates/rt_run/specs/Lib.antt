@@ -1,5 +1,6 @@
 pub mod Reported
 pub mod Reads
+pub mod Counted
 pub use Rattle.run_base.specs.Carried
 pub use Rattle.run_base.specs.Exits
 pub use Rattle.run_base.specs.Faults

@@ -1,5 +1,5 @@
--- Which files a request reads, which counters it moves, and how a run without a request ends. (This profile.)
-use Rattle.std.specs.Prelude.{◌≡◌, ℕ, List, [], ◌∷◌, ◌⊎◌, length, Option, Some, None, Contains, ⊤}
+-- Which files a request reads, and how a run without a request ends. (This profile.)
+use Rattle.std.specs.Prelude.{◌≡◌, ℕ, List, [], ◌∷◌, ◌⊎◌, Option, Some, None, Contains, ⊤}
 use Rattle.rt_outside.specs.Store.{Contents}
 use Rattle.run_words.specs.declared.request.Request.{Request}
 use Rattle.run_words.specs.declared.request.Request.TheVariants.{Check, Follow, Predict, Show, Encode, Merge, Trial, Verify, Alerts}
@@ -25,19 +25,6 @@ Reads (Some (Merge files)) told name = Contains files name
 Reads (Some (Trial seed)) told name = IsTrialFile name
 Reads (Some (Verify file)) told name = Contains (file ∷ []) name
 Reads (Some (Alerts now query files)) told name = Contains files name
-
--- the requests that no engine serves; one file is checked without one
-abbrev pub IsWithoutEngine : Option Request → Type 0
-IsWithoutEngine None = ⊤
-IsWithoutEngine (Some (Check folder now files)) = length files ≡ 1
-IsWithoutEngine (Some (Follow folder list)) = ⊥
-IsWithoutEngine (Some (Predict folder zone now file)) = ⊤
-IsWithoutEngine (Some (Show file)) = ⊤
-IsWithoutEngine (Some (Encode file)) = ⊤
-IsWithoutEngine (Some (Merge files)) = ⊤
-IsWithoutEngine (Some (Trial seed)) = ⊥
-IsWithoutEngine (Some (Verify file)) = ⊤
-IsWithoutEngine (Some (Alerts now query files)) = ⊥
 
 -- the answers where the words give no request
 abbrev pub IsWithoutRequest : Status → Type 0

@@ -4,9 +4,11 @@ ghost use Rattle.rt_outside.specs.Causes.{Rose};
 ghost use Rattle.rt_outside.specs.Store.{contents_told};
 ghost use Rattle.run_words.specs.Words.{request, NamesFiles};
 ghost use Rattle.run_base.specs.Carried.{CarriesOut, TellsReport};
+ghost use Rattle.run_base.specs.Counted.{IsCounted, counters};
 ghost use Rattle.run_base.specs.Faults.{TellsOneOf};
 ghost use Rattle.run_base.specs.Outside.{outside};
-ghost use Rattle.rt_run.specs.Reads.{IsRunText, IsWithoutEngine, IsWithoutRequest, Reads};
+ghost use Rattle.rt_run.specs.Counted.{JudgesNothing, run_work};
+ghost use Rattle.rt_run.specs.Reads.{IsRunText, IsWithoutRequest, Reads};
 ghost use Rattle.rt_run.specs.Reported.{IsAsked, IsReport};
 
 use rt_outside::{Files, Sink, Steps};
@@ -37,9 +39,8 @@ const USAGE: &[u8] = b"usage: rt_command check [--timetable DIR] [--now N] FILE.
 /// Carries out the request of the words after the program's name, at the moment `now`, as POSIX
 /// time in seconds.
 ///
-/// Want of memory is the one answer that may come at any time. The two counters, of decodings and
-/// of rule tests, are handed to the engine that follows feeds: that of `follow`, `trial`, `alerts` and of
-/// `check` of several files.
+/// Want of memory is the one answer that may come at any time. `decodes` ticks once for each entity that is decoded to be judged, and
+/// `tests` once for each rule that is tested: both at `check`, `follow`, `trial` and `alerts` alone.
 pub fn run<F: Files, S: Sink, E: Sink, D: Ledger, T: Ledger>(
     alloc: Global,
     words: &[String],
@@ -70,9 +71,12 @@ pub fn run<F: Files, S: Sink, E: Sink, D: Ledger, T: Ledger>(
     ensures told { let reads = Reads (request (map string_bytes words.now)) (contents_told (F.state files.old).told) in
         TellsOneOf (IsRunText reads) reads (F.state files.new).asked (E.state err.old) (E.state err.new) result }
 
-    // The counters stay where no engine is asked.
-    ensures decodes { IsWithoutEngine (request (map string_bytes words.now)) → decodes.new ≡ decodes.old }
-    ensures tests { IsWithoutEngine (request (map string_bytes words.now)) → tests.new ≡ tests.old }
+    // The counters rise by exactly the work of the accepted snapshots where the request is carried out, and by no more in any case.
+    ensures counted { IsCounted (run_work (request (map string_bytes words.now)) now) (contents_told (F.state files.old).told)
+        (counters decodes.old tests.old) (counters decodes.new tests.new) result }
+
+    // They stay where no snapshot is judged.
+    ensures rested { JudgesNothing (request (map string_bytes words.now)) → counters decodes.new tests.new ≡ counters decodes.old tests.old }
 {
     match words_of(alloc, words) {
         Err(_) => say_memory(err),
@@ -96,8 +100,9 @@ fn carry_out<F: Files, S: Sink, E: Sink, D: Ledger, T: Ledger>(
     ensures carried { CarriesOut (IsAsked request.now now) (Reads (Some request.now) (contents_told (F.state files.old).told))
         (outside (F.state files.old) (S.state out.old) (E.state err.old))
         (outside (F.state files.new) (S.state out.new) (E.state err.new)) result }
-    ensures decodes { IsWithoutEngine (Some request.now) → decodes.new ≡ decodes.old }
-    ensures tests { IsWithoutEngine (Some request.now) → tests.new ≡ tests.old }
+    ensures counted { IsCounted (run_work (Some request.now) now) (contents_told (F.state files.old).told)
+        (counters decodes.old tests.old) (counters decodes.new tests.new) result }
+    ensures rested { JudgesNothing (Some request.now) → counters decodes.new tests.new ≡ counters decodes.old tests.old }
 {
     match request {
         Request::Check {
@@ -113,40 +118,10 @@ fn carry_out<F: Files, S: Sink, E: Sink, D: Ledger, T: Ledger>(
         }
         Request::Follow { folder, list } => {
             let folder = folder.as_ref();
-            follow(
-                alloc,
-                folder,
-                list.as_str(),
-                files,
-                out,
-                err,
-                decodes,
-                tests,
-            )
+            let list = list.as_str();
+            follow(alloc, folder, list, files, out, err, decodes, tests)
         }
-        Request::Predict {
-            folder,
-            zone,
-            now: moment,
-            file,
-        } => {
-            let moment = moment.unwrap_or(now);
-            predict(
-                alloc,
-                folder.as_str(),
-                zone,
-                moment,
-                file.as_str(),
-                files,
-                out,
-                err,
-            )
-        }
-        Request::Show { file } => show(alloc, file.as_str(), files, out, err),
-        Request::Encode { file } => encode(alloc, file.as_str(), files, out, err),
-        Request::Merge { files: names } => merge(alloc, names, files, out, err),
         Request::Trial { seed } => trial(alloc, *seed, out, err, decodes, tests),
-        Request::Verify { file } => verify(alloc, file.as_str(), files, out, err),
         Request::Alerts {
             now: moment,
             query,
@@ -155,5 +130,43 @@ fn carry_out<F: Files, S: Sink, E: Sink, D: Ledger, T: Ledger>(
             let moment = moment.unwrap_or(now);
             alerts(alloc, moment, query, names, files, out, err, decodes, tests)
         }
+        _ => carry_out_uncounted(alloc, request, now, files, out, err),
+    }
+}
+
+// Carries out a request that judges no snapshot.
+fn carry_out_uncounted<F: Files, S: Sink, E: Sink>(
+    alloc: Global,
+    request: &Request,
+    now: u64,
+    files: &mut F,
+    out: &mut S,
+    err: &mut E,
+) -> Status
+    requires names { NamesFiles request.now }
+    requires judges_nothing { JudgesNothing (Some request.now) }
+    ensures { CarriesOut (IsAsked request.now now) (Reads (Some request.now) (contents_told (F.state files.old).told))
+        (outside (F.state files.old) (S.state out.old) (E.state err.old))
+        (outside (F.state files.new) (S.state out.new) (E.state err.new)) result }
+{
+    match request {
+        Request::Predict {
+            folder,
+            zone,
+            now: moment,
+            file,
+        } => {
+            let moment = moment.unwrap_or(now);
+            let folder = folder.as_str();
+            predict(alloc, folder, zone, moment, file.as_str(), files, out, err)
+        }
+        Request::Show { file } => show(alloc, file.as_str(), files, out, err),
+        Request::Encode { file } => encode(alloc, file.as_str(), files, out, err),
+        Request::Merge { files: names } => merge(alloc, names, files, out, err),
+        Request::Verify { file } => verify(alloc, file.as_str(), files, out, err),
+        Request::Check { .. }
+        | Request::Follow { .. }
+        | Request::Trial { .. }
+        | Request::Alerts { .. } => unreachable!(),
     }
 }

@@ -8,7 +8,9 @@ use Rattle.follow_engine.specs.Entities.{entities_after}
 use Rattle.alert_terms.specs.declared.query.Query.{Query}
 use Rattle.alert_terms.specs.InForce.{KeyedEntity, alerts_in, in_force, next_change}
 use Rattle.snapshot_lines.specs.Lines.{line_of}
+use Rattle.run_base.specs.Counted.{Work}
 use Rattle.run_base.specs.Report.{Report}
+use Rattle.run_rows.specs.Counted.{files_work}
 use Rattle.run_rows.specs.Files.{Ending, files_ended}
 use Rattle.run_alerts.specs.Lines.{alert_text, sum}
 
@@ -30,3 +32,7 @@ alerts_after moment query h = alerts_ending moment query (entities_after h)
 -- the report on files, which are snapshots of as many feeds, at one moment; they are taken without a timetable
 abbrev pub alerts_report : ℕ → Query → List (List ℕ) → Contents → Report
 alerts_report moment query files contents = files_ended (alerts_after moment query) None moment files contents
+
+-- how much it decodes and tests
+abbrev pub alerts_work : ℕ → List (List ℕ) → Contents → Work
+alerts_work moment files contents = files_work None moment files contents

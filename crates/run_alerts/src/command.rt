@@ -3,16 +3,18 @@ ghost use Rattle.std.specs.Prelude.{◌≡◌, ◌≤◌, Contains, IsErrOf, Lis
 ghost use Rattle.std.specs.Io.KnownBytes.{append_known};
 ghost use Rattle.rt_outside.specs.Causes.{Rose};
 ghost use Rattle.rt_outside.specs.Sink.{AppendsPrefix};
+ghost use Rattle.rt_outside.specs.Store.{contents_told};
 ghost use Rattle.timetable.specs.Timetables.{Tables};
 ghost use Rattle.rule_history.specs.History.{Snapshot};
 ghost use Rattle.engine_laws.specs.Standings.{StandsFor};
 ghost use Rattle.follow_engine.specs.Engines.{engine_data};
 ghost use Rattle.follow_engine.specs.Entities.{entities_after, entities_held};
 ghost use Rattle.run_base.specs.Carried.{CarriesOut, exactly};
+ghost use Rattle.run_base.specs.Counted.{IsCounted, counters};
 ghost use Rattle.run_base.specs.Outside.{outside};
 ghost use Rattle.run_rows.specs.Files.{EndsWith};
 ghost use Rattle.run_words.specs.Words.{file_limit};
-ghost use Rattle.run_alerts.specs.Alerts.{alerts_ending, alerts_report, alerts_text};
+ghost use Rattle.run_alerts.specs.Alerts.{alerts_ending, alerts_report, alerts_text, alerts_work};
 
 use crate::in_force::alerts_text;
 use alert_view::Query;
@@ -41,9 +43,10 @@ pub fn alerts<F: Files, S: Sink, E: Sink, D: Ledger, T: Ledger>(
     tests: &mut Steps<T>,
 ) -> Status
     requires { length names.now ≤ file_limit }
-    ensures { CarriesOut (exactly (alerts_report moment query.now names.now)) (Contains names.now)
+    ensures carried { CarriesOut (exactly (alerts_report moment query.now names.now)) (Contains names.now)
         (outside (F.state files.old) (S.state out.old) (E.state err.old))
         (outside (F.state files.new) (S.state out.new) (E.state err.new)) result }
+    ensures counted { IsCounted (alerts_work moment names.now) (contents_told (F.state files.old).told) (counters decodes.old tests.old) (counters decodes.new tests.new) result }
 {
     let table = Timetable::absent(alloc);
     match take_files(alloc, moment, table, names, files, out, err, decodes, tests) {

@@ -7,4 +7,5 @@ pub mod Inputs
 pub mod Found
 pub mod Pieces
 pub mod Sending
+pub mod Counted
 pub use Rattle.snapshot_lines.specs.Lines

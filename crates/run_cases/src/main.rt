@@ -2,13 +2,14 @@
 //!
 //! - `setting` has what stands before a run: its files, its moment, and which calls are to fail; `odd_files` are files that give a
 //!   byte at a time, or have no end
-//! - `runs` runs, `ended` tells what a run has left, and `spans` tells once what is the same of runs in a row
+//! - `runs` runs, `counted` adds up what its lines count, `ended` tells what a run has left, and `spans` tells once what is the same of runs in a row
 //! - `trials` asks what the trial makes
 //!
 //! The answers of `wrong.cases` are wrong on purpose: `stdout` has what is told of them, so that the gate sees that a wrong answer is
 //! told with its text, line and case.
 #![tactic(auto)]
 
+mod counted;
 mod ended;
 mod odd_files;
 mod runs;

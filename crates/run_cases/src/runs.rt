@@ -1,6 +1,7 @@
 //! Runs, and what they leave.
 ghost use Rattle.std.specs.Prelude.{◌≡◌};
 
+use crate::counted::say_work;
 use crate::ended::{Ended, Sinks, say_members, say_status, told_filled, told_lines};
 use crate::odd_files::{Dripping, Endless};
 use crate::setting::{Giving, Setting};
@@ -167,7 +168,8 @@ impl Runs {
     }
 
     /// Answers `run WORD..` with its status and all that it writes, `end WORD..` with its status and what it writes to the error
-    /// stream, and then `members NAME..` with these members of the line that it wrote. `out-as NAME` makes a file of what it wrote.
+    /// stream, and then `members NAME..` with these members of the line that it wrote, or `work` with how much its lines count. `out-as NAME`
+    /// makes a file of what it wrote.
     ///
     /// `each-fault files|out|err WORD..` runs with call 0 failing alone, then with call 1, and so on up to the first run that doesn't end by
     /// it, which is told too. `each-room WORD..` runs with room in the output for 0 bytes, 1 byte and so on, up to the first room that is
@@ -187,6 +189,7 @@ impl Runs {
             )?,
             "each-room" => self.say_each_room(rest, answer)?,
             "members" => say_members(self.alloc, &self.written, rest, answer)?,
+            "work" => say_work(self.alloc, &self.written, answer)?,
             "out-as" => self.setting.put_written(word(words, 1), &mut self.written)?,
             _ => return Ok(false),
         }

@@ -1,5 +1,5 @@
 -- The report of `check` on one file is that of its snapshot by itself.
-use Rattle.std.proofs.Common.{◌≡◌, ℕ, zero, suc, ◌<◌, Bool, true, false, cond, ◌||◌, List, [], ◌∷◌, ◌++◌, map, length, refl, sym, ◌∙◌, ap, subst, arith, append-nil, Some, None, if◌then◌else◌, Result, Ok, Err}
+use Rattle.std.proofs.Common.{◌≡◌, ℕ, zero, suc, ◌+◌, ◌*◌, ◌<◌, Bool, true, false, cond, ◌||◌, List, [], ◌∷◌, ◌++◌, map, length, refl, sym, ◌∙◌, ap, subst, arith, append-nil, Some, None, if◌then◌else◌, Result, Ok, Err}
 use Rattle.std.specs.declared.option.Option.{Option}
 use Rattle.std.specs.FinMap.{get}
 use Rattle.std.specs.List.{flat_map, list_any}
@@ -13,6 +13,7 @@ use Rattle.timetable.specs.Timetables.{Tables}
 use Rattle.rule_table.specs.Found.{Found}
 use Rattle.rule_history.specs.History.{Snapshot, feed_limit, feed_limit-is}
 use Rattle.rule_history.specs.Findings.{findings}
+use Rattle.rule_history.specs.Changed.{bounded, paired, tested}
 use Rattle.rule_history.specs.Standing.{Standing, Spot, stands_after}
 use Rattle.engine_laws.specs.Computed.{standing, standings, delta_after, since_of}
 use Rattle.engine_laws.specs.Delta.{Delta}
@@ -25,6 +26,10 @@ use Rattle.run_base.specs.declared.status.Status.TheVariants as answer
 use Rattle.rt_report.specs.FindingLines.{standing_text, finding_text, is_error, has_error, any_error}
 use Rattle.run_snapshot.specs.Reports.{accepted_report, accepted_text as first_text, snapshot_findings}
 use Rattle.run_base.specs.Report.{Report, file_report, found, judged_report, refused_report, snapshot_report}
+use Rattle.run_base.specs.Counted.{counters, no_work, plus}
+use Rattle.run_snapshot.specs.Counted.{first_work, found_work, snapshot_work}
+use Rattle.run_rows.specs.Counted.{files_work, outcome_work, work_of}
+use Rattle.run_rows.proofs.Counted.{same_work}
 use Rattle.run_check.specs.Check.{all_findings, files_report}
 use Rattle.run_rows.specs.Files.{ended}
 use Rattle.run_rows.specs.Rows.{accepted_text, row_outcome, taken}
@@ -96,6 +101,14 @@ module _ (t : Option Tables) (moment : ℕ) (file bytes : List ℕ) where
       ∙ ap (λ xs. xs ++ flat_map finding_text (findings t (first ∷ []))) (append-nil (accepted_text 0 row (delta_after t [] first)) ∙ line_is))
       refl (ap found (errors t first (findings t (first ∷ []))))
 
+  -- all its entities are tested, paired and bounded
+  work_is : plus (work_of t [] first) no_work ≡ first_work (length (entities_of bytes))
+  work_is = all_new (tested [] first) (paired [] first) (bounded t [] first) (length (entities_of bytes)) (first_is_new.all_tested first feed_fits ∙ as_many bytes) (first_is_new.all_paired first feed_fits ∙ as_many bytes)
+      (first_is_new.all_bounded t first feed_fits ∙ as_many bytes)
+    where
+      all_new : (x y z n : ℕ) → x ≡ n → y ≡ n → z ≡ n → counters (x + 0) ((10 + (40 * x + 3 * y + 2 * z)) + 0) ≡ first_work n
+      all_new x y z n a b c = same_work _ _ _ _ (omega (arith, a)) (omega (arith, a, b, c))
+
 -- ---- a file
 module _ (t : Option Tables) (moment : ℕ) (file : List ℕ) where
   at_fault : (bytes : List ℕ) (why : Option Refusal) → ended (all_findings t) (row_outcome Counts t [] 0 (row t moment file bytes) (unless_faulty bytes why)) ≡ judged_report (accepted_report t moment) bytes why
@@ -109,3 +122,13 @@ module _ (t : Option Tables) (moment : ℕ) (file : List ℕ) where
   -- the report on one file is that on its snapshot by itself
   pub one_file : (contents : Contents) → file_report (accepted_report t moment) file contents ≡ files_report t moment (file ∷ []) contents
   one_file contents = sym (ap (ended (all_findings t)) (then-none (row_outcome Counts t [] 0 (record { feed = 0; moment = moment; path = file }) (bytes_in (get contents file)))) ∙ held_is (get contents file))
+
+  -- ---- and so is the work for it
+  work_found : (found : Result (List ℕ) Refusal) → outcome_work t (row_outcome Counts t [] 0 (record { feed = 0; moment = moment; path = file }) found) ≡ found_work found
+  work_found (Ok bytes) = work_is t moment file bytes
+  work_found (Err why) = refl
+
+  pub one_work : (contents : Contents) → snapshot_work (get contents file) ≡ files_work t moment (file ∷ []) contents
+  one_work contents =
+      let found = bytes_in (get contents file) in
+      sym (ap (outcome_work t) (then-none (row_outcome Counts t [] 0 (record { feed = 0; moment = moment; path = file }) found)) ∙ work_found found)

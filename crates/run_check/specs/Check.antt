@@ -7,8 +7,10 @@ use Rattle.rule_history.specs.History.{Snapshot}
 use Rattle.rule_history.specs.Standing.{Standing}
 use Rattle.engine_laws.specs.Computed.{standings}
 use Rattle.rt_report.specs.FindingLines.{all_text, any_error}
+use Rattle.run_base.specs.Counted.{Work}
 use Rattle.run_base.specs.Report.{Report}
-use Rattle.run_timetable.specs.Timetables.{IsTableFile, with_timetable}
+use Rattle.run_timetable.specs.Timetables.{IsTableFile, with_timetable, work_with_timetable}
+use Rattle.run_rows.specs.Counted.{files_work}
 use Rattle.run_rows.specs.Files.{Ending, files_ended}
 
 -- the lines of findings
@@ -25,6 +27,10 @@ files_report t moment files contents = files_ended (all_findings t) t moment fil
 
 abbrev pub check_report : Option (List ℕ) → ℕ → List (List ℕ) → Contents → Report
 check_report folder moment files = with_timetable (λ t. files_report t moment files) folder
+
+-- how much it decodes and tests
+abbrev pub check_work : Option (List ℕ) → ℕ → List (List ℕ) → Contents → Work
+check_work folder moment files = work_with_timetable (λ t. files_work t moment files) folder
 
 -- ---- the files that it reads
 -- a file that `check` reads: one of those that are named, or one of the timetable's folder

@@ -1,10 +1,13 @@
 //! `check` of several files, each the snapshot of a feed of its own.
 ghost use Rattle.std.specs.Prelude.{◌≤◌, Contains, length};
+ghost use Rattle.rt_outside.specs.Store.{contents_told};
 ghost use Rattle.follow_engine.specs.Engines.{engine_data};
 ghost use Rattle.rule_history.specs.Answered.{tables_of};
 ghost use Rattle.run_base.specs.Carried.{CarriesOut, exactly};
+ghost use Rattle.run_base.specs.Counted.{IsCounted, counters};
 ghost use Rattle.run_base.specs.Outside.{outside};
 ghost use Rattle.run_check.specs.Check.{files_report, findings_ending};
+ghost use Rattle.run_rows.specs.Counted.{files_work};
 ghost use Rattle.run_rows.specs.Files.{EndsWith};
 ghost use Rattle.run_words.specs.Words.{file_limit};
 
@@ -30,9 +33,10 @@ pub fn check_feeds<F: Files, S: Sink, E: Sink, D: Ledger, T: Ledger>(
     tests: &mut Steps<T>,
 ) -> Status
     requires { length names.now ≤ file_limit }
-    ensures { CarriesOut (exactly (files_report (tables_of timetable) moment names.now)) (Contains names.now)
+    ensures carried { CarriesOut (exactly (files_report (tables_of timetable) moment names.now)) (Contains names.now)
         (outside (F.state files.old) (S.state out.old) (E.state err.old))
         (outside (F.state files.new) (S.state out.new) (E.state err.new)) result }
+    ensures counted { IsCounted (files_work (tables_of timetable) moment names.now) (contents_told (F.state files.old).told) (counters decodes.old tests.old) (counters decodes.new tests.new) result }
 {
     match take_files(
         alloc, moment, timetable, names, files, out, err, decodes, tests,

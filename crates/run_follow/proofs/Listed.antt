@@ -21,11 +21,12 @@ use Rattle.run_base.specs.Inputs.{FailsAt, SaysInputFault}
 use Rattle.run_base.specs.Outside.{outside}
 use Rattle.run_base.specs.Report.{found, refused_input}
 use Rattle.run_base.proofs.Carried.{carried_input, input_more}
+use Rattle.run_rows.specs.Counted.{outcome_work}
 use Rattle.run_rows.specs.declared.telling.Telling.TheVariants.{Changes}
 use Rattle.run_rows.specs.Followed.{IsDone}
 use Rattle.run_rows.specs.Rows.{all_rows}
 use Rattle.run_timetable.specs.Timetables.{IsTableFile}
-use Rattle.run_follow.specs.Follow.{IsFollowed, IsListed, TellsListFault, followed, list_report, rows_report}
+use Rattle.run_follow.specs.Follow.{IsFollowed, IsListed, TellsListFault, followed, list_report, list_work, rows_report, rows_work}
 
 -- what is read without a timetable is read with one
 pub followed_more : (mid told : Option Contents) (folder : Option (List ℕ)) (list : List ℕ) → mid ≡ told → (name : List ℕ) → IsFollowed mid None list name → IsFollowed told folder list name
@@ -39,7 +40,13 @@ pub rows_listed : (told : Option Contents) (t : Option Tables) (list : List ℕ)
 rows_listed None t list rows is = tt
 rows_listed (Some held) t list rows is = ap (λ r. rows_report t list r held) (sym is)
 
--- and its fault is the report
+-- and the work for them
+pub work_listed : (told : Option Contents) (t : Option Tables) (list : List ℕ) (rows : List ListRow) → IfSome told (λ held. list_in (get held list) ≡ Ok rows) →
+    IfSome told (λ held. outcome_work t (all_rows Changes t held rows) ≡ list_work list t held)
+work_listed None t list rows is = tt
+work_listed (Some held) t list rows is = ap (λ r. rows_work t r held) (sym is)
+
+-- its fault is the report
 pub list_refused : (told : Option Contents) (t : Option Tables) (list : List ℕ) (why : ListFault) → IfSome told (λ held. list_in (get held list) ≡ Err why) →
     IfSome told (λ held. list_report list t held ≡ refused_input (refused_text list (fault_text why)))
 list_refused None t list why is = tt

@@ -9,11 +9,13 @@ use Rattle.feed_list.specs.declared.fault.ListFault.{ListFault}
 use Rattle.feed_list.specs.declared.fault.ListFault.TheVariants as list_fault
 use Rattle.feed_list.specs.declared.row.ListRow.{ListRow}
 use Rattle.run_base.specs.declared.input_fault.InputFault.{InputFault}
+use Rattle.run_base.specs.Counted.{Work, no_work}
 use Rattle.run_base.specs.Faults.{refused_text}
 use Rattle.run_base.specs.Inputs.{TellsInput}
 use Rattle.run_base.specs.Report.{Report, found, refused_input}
-use Rattle.run_timetable.specs.Timetables.{IsTableFile, with_timetable}
+use Rattle.run_timetable.specs.Timetables.{IsTableFile, with_timetable, work_with_timetable}
 use Rattle.run_rows.specs.declared.telling.Telling.TheVariants.{Changes}
+use Rattle.run_rows.specs.Counted.{outcome_work}
 use Rattle.run_rows.specs.Rows.{Outcome, all_rows, paths_of}
 
 -- the report of `follow` on rows
@@ -30,6 +32,18 @@ list_report list t contents = rows_report t list (list_in (get contents list)) c
 
 abbrev pub follow_report : Option (List ℕ) → List ℕ → Contents → Report
 follow_report folder list = with_timetable (list_report list) folder
+
+-- ---- how much it decodes and tests
+-- on rows that a list has, with a timetable; nothing where the list is refused
+abbrev pub rows_work : Option Tables → Result (List ListRow) ListFault → Contents → Work
+rows_work t (Err fault) contents = no_work
+rows_work t (Ok rows) contents = outcome_work t (all_rows Changes t contents rows)
+
+abbrev pub list_work : List ℕ → Option Tables → Contents → Work
+list_work list t contents = rows_work t (list_in (get contents list)) contents
+
+abbrev pub follow_work : Option (List ℕ) → List ℕ → Contents → Work
+follow_work folder list = work_with_timetable (list_work list) folder
 
 -- ---- the files that it reads
 -- a path in a row of a list, which has the rows that its file says, where that is told

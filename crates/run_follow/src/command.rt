@@ -4,10 +4,12 @@ ghost use Rattle.rt_outside.specs.Store.{contents_told};
 ghost use Rattle.feed_list.specs.Lists.{IsWithinLimits};
 ghost use Rattle.rule_history.specs.Answered.{tables_of};
 ghost use Rattle.run_base.specs.Carried.{CarriesOut, exactly};
+ghost use Rattle.run_base.specs.Counted.{IsCounted, counters};
 ghost use Rattle.run_base.specs.Outside.{outside};
+ghost use Rattle.run_rows.specs.Counted.{outcome_work};
 ghost use Rattle.run_rows.specs.Rows.{all_rows, paths_of};
 ghost use Rattle.run_rows.specs.declared.telling.Telling.TheVariants.{Changes};
-ghost use Rattle.run_follow.specs.Follow.{IsFollowed, follow_report, followed, list_report};
+ghost use Rattle.run_follow.specs.Follow.{IsFollowed, follow_report, follow_work, followed, list_report, list_work};
 
 use crate::list_fault::told_as;
 use feed_list::{ListRow, read_list};
@@ -34,10 +36,11 @@ pub fn follow<F: Files, S: Sink, E: Sink, D: Ledger, T: Ledger>(
     decodes: &mut Steps<D>,
     tests: &mut Steps<T>,
 ) -> Status
-    ensures { CarriesOut (exactly (follow_report (option_copied folder.entry) list.now))
+    ensures carried { CarriesOut (exactly (follow_report (option_copied folder.entry) list.now))
         (IsFollowed (contents_told (F.state files.old).told) (option_copied folder.entry) list.now)
         (outside (F.state files.old) (S.state out.old) (E.state err.old))
         (outside (F.state files.new) (S.state out.new) (E.state err.new)) result }
+    ensures counted { IsCounted (follow_work (option_copied folder.entry) list.now) (contents_told (F.state files.old).told) (counters decodes.old tests.old) (counters decodes.new tests.new) result }
 {
     match load_given(alloc, files, folder) {
         Ok(timetable) => follow_list(alloc, timetable, list, files, out, err, decodes, tests),
@@ -56,10 +59,11 @@ fn follow_list<F: Files, S: Sink, E: Sink, D: Ledger, T: Ledger>(
     decodes: &mut Steps<D>,
     tests: &mut Steps<T>,
 ) -> Status
-    ensures { CarriesOut (exactly (list_report list.now (tables_of timetable)))
+    ensures carried { CarriesOut (exactly (list_report list.now (tables_of timetable)))
         (IsFollowed (contents_told (F.state files.old).told) None list.now)
         (outside (F.state files.old) (S.state out.old) (E.state err.old))
         (outside (F.state files.new) (S.state out.new) (E.state err.new)) result }
+    ensures counted { IsCounted (list_work list.now (tables_of timetable)) (contents_told (F.state files.old).told) (counters decodes.old tests.old) (counters decodes.new tests.new) result }
 {
     match read_list(alloc, files, list) {
         Ok(rows) => follow_listed(
@@ -88,9 +92,10 @@ fn follow_listed<F: Files, S: Sink, E: Sink, D: Ledger, T: Ledger>(
     tests: &mut Steps<T>,
 ) -> Status
     requires { IsWithinLimits rows.now }
-    ensures { CarriesOut (exactly (λ held. followed (all_rows Changes (tables_of timetable) held rows.now))) (Contains (paths_of rows.now))
+    ensures carried { CarriesOut (exactly (λ held. followed (all_rows Changes (tables_of timetable) held rows.now))) (Contains (paths_of rows.now))
         (outside (F.state files.old) (S.state out.old) (E.state err.old))
         (outside (F.state files.new) (S.state out.new) (E.state err.new)) result }
+    ensures counted { IsCounted (λ held. outcome_work (tables_of timetable) (all_rows Changes (tables_of timetable) held rows.now)) (contents_told (F.state files.old).told) (counters decodes.old tests.old) (counters decodes.new tests.new) result }
 {
     match follow_rows(
         alloc,

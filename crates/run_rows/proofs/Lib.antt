@@ -1,5 +1,6 @@
 pub mod OpenedLines
 pub mod RowByRow
+pub mod Counted
 pub mod Paths
 pub mod FileRows
 pub mod Ended

@@ -56,7 +56,7 @@ module _ (telling : Telling) (t : Option Tables) (held : Contents) where
   from h n rows = rows_from telling t held h n rows
 
   -- the rows of a front, and then the others after its history
-  from-split : (h : List Snapshot) (n : ℕ) (xs ys : List ListRow) → from h n (xs ++ ys) ≡ then (from h n xs) (from (from h n xs).after (n + length xs) ys)
+  pub from-split : (h : List Snapshot) (n : ℕ) (xs ys : List ListRow) → from h n (xs ++ ys) ≡ then (from h n xs) (from (from h n xs).after (n + length xs) ys)
   from-split h n [] ys = ap (λ m. from h m ys) (none n)
     where
       none : (n : ℕ) → n ≡ n + 0
@@ -70,7 +70,7 @@ module _ (telling : Telling) (t : Option Tables) (held : Contents) where
       next n k = omega arith
 
   -- one row more
-  from-more : (h : List Snapshot) (rows : List ListRow) (i : ℕ) (row : ListRow) → i < length rows → row ≡ get_or rows i row →
+  pub from-more : (h : List Snapshot) (rows : List ListRow) (i : ℕ) (row : ListRow) → i < length rows → row ≡ get_or rows i row →
       from h 0 (take (i + 1) rows) ≡ then (from h 0 (take i rows)) (at_row (from h 0 (take i rows)).after i row)
   from-more h rows i row l is =
       ap (from h 0) (take_more rows i row l ∙ ap (λ r. take i rows ++ r ∷ []) (sym is))

@@ -13,10 +13,12 @@ use Rattle.engine_laws.specs.Standings.{StandsFor}
 use Rattle.follow_engine.specs.declared.engine.Engine.{Engine}
 use Rattle.follow_engine.specs.Engines.{engine_data}
 use Rattle.run_base.specs.declared.fault.Fault.TheVariants as fault
+use Rattle.run_base.specs.Counted.{Work}
 use Rattle.rt_report.specs.declared.lines.Lines.{Lines}
 use Rattle.run_rows.specs.declared.row.RowEnd.{RowEnd}
 use Rattle.run_rows.specs.declared.rows.RowFault.{RowFault}
 use Rattle.run_rows.specs.declared.telling.Telling.{Telling}
+use Rattle.run_rows.specs.Counted.{row_work}
 use Rattle.run_rows.specs.Rows.{Outcome, accepted_text, told_text, told_error, row_outcome}
 use Rattle.run_base.specs.Found.{bytes_in}
 
@@ -39,6 +41,11 @@ pub record IsOutcome (t : Option Tables) (o : Outcome) (end : RowEnd) : Type 0 w
 abbrev pub Takes : Telling → ℕ → ListRow → Result (List ℕ) Refusal → Engine → RowEnd → Type 0
 Takes telling number row found engine end =
     (t : Option Tables) (h : List Snapshot) → Stands t engine h → IsOutcome t (row_outcome telling t h number row found) end
+
+-- The counters rose by the work for what was found in a row's file, after each history that the engine stands for. How they rose is
+-- `RoseBy` or `RoseAtMost`.
+abbrev pub RowCounts : (Work → Work → Work → Type 0) → Engine → ListRow → Result (List ℕ) Refusal → (old new : Work) → Type 0
+RowCounts rose engine row found old new = (t : Option Tables) (h : List Snapshot) → Stands t engine h → rose (row_work t h row found) old new
 
 -- the snapshot of a row was judged: what was found in its file is what stands there, where that is told
 pub record IsRowEnd (told : Option Contents) (telling : Telling) (number : ℕ) (row : ListRow) (engine : Engine) (end : RowEnd) : Type 0 where

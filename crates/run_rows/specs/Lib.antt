@@ -1,3 +1,4 @@
 pub mod Rows
 pub mod Followed
 pub mod Files
+pub mod Counted

@@ -5,7 +5,10 @@ ghost use Rattle.feed_list.specs.Lists.{IsWithinLimits};
 ghost use Rattle.rule_history.specs.Answered.{tables_of};
 ghost use Rattle.rule_history.specs.History.{Snapshot};
 ghost use Rattle.run_base.specs.Carried.{CarriesOut, exactly};
+ghost use Rattle.run_base.specs.Counted.{RoseAtMost, RoseBy, counters};
+ghost use Rattle.run_base.specs.Faults.{IsCarriedOut};
 ghost use Rattle.run_base.specs.Outside.{outside};
+ghost use Rattle.run_rows.specs.Counted.{files_work, outcome_work};
 ghost use Rattle.run_rows.specs.Files.{Ending, IsCutOff, ended, file_rows, files_outcome};
 ghost use Rattle.run_rows.specs.Followed.{IsDone};
 ghost use Rattle.run_rows.specs.Rows.{all_rows, paths_of};
@@ -51,8 +54,13 @@ pub fn take_files<F: Files, S: Sink, E: Sink, D: Ledger, T: Ledger>(
     requires { length names.now ≤ 16 }
     ensures whole { IfSome (contents_told (F.state files.old).told) (λ held. IfOk result (λ end.
         IsDone (tables_of table) end.engine end.error (S.state out.old).written (S.state out.new).written (files_outcome (tables_of table) moment names.now held))) }
+    ensures counted { IfSome (contents_told (F.state files.old).told) (λ held.
+        OnOk result (RoseBy (files_work (tables_of table) moment names.now held) (counters decodes.old tests.old) (counters decodes.new tests.new))) }
+    ensures most { IfSome (contents_told (F.state files.old).told) (λ held.
+        RoseAtMost (files_work (tables_of table) moment names.now held) (counters decodes.old tests.old) (counters decodes.new tests.new)) }
     ensures later { (S.state out.old).faults ≤ (S.state out.new).faults }
     ensures silent { OnOk result (E.state err.new ≡ E.state err.old) }
+    ensures undone { IfErr result (λ status. IsCarriedOut status → ⊥) }
     ensures cut_off { IfErr result (IsCutOff (tables_of table) moment names.now
         (outside (F.state files.old) (S.state out.old) (E.state err.old))
         (outside (F.state files.new) (S.state out.new) (E.state err.new))) }
@@ -86,8 +94,13 @@ fn take_rows<F: Files, S: Sink, E: Sink, D: Ledger, T: Ledger>(
     requires { IsWithinLimits rows.now }
     ensures whole { IfSome (contents_told (F.state files.old).told) (λ held. IfOk result (λ end.
         IsDone (tables_of table) end.engine end.error (S.state out.old).written (S.state out.new).written (all_rows Counts (tables_of table) held rows.now))) }
+    ensures counted { IfSome (contents_told (F.state files.old).told) (λ held.
+        OnOk result (RoseBy (outcome_work (tables_of table) (all_rows Counts (tables_of table) held rows.now)) (counters decodes.old tests.old) (counters decodes.new tests.new))) }
+    ensures most { IfSome (contents_told (F.state files.old).told) (λ held.
+        RoseAtMost (outcome_work (tables_of table) (all_rows Counts (tables_of table) held rows.now)) (counters decodes.old tests.old) (counters decodes.new tests.new)) }
     ensures later { (S.state out.old).faults ≤ (S.state out.new).faults }
     ensures silent { OnOk result (E.state err.new ≡ E.state err.old) }
+    ensures undone { IfErr result (λ status. IsCarriedOut status → ⊥) }
     ensures cut_off { IfErr result (λ status. (ending : List Snapshot → Ending) →
         CarriesOut (exactly (λ held. ended ending (all_rows Counts (tables_of table) held rows.now))) (Contains (paths_of rows.now))
         (outside (F.state files.old) (S.state out.old) (E.state err.old))

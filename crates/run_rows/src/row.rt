@@ -1,11 +1,13 @@
 //! The snapshot of a row.
-ghost use Rattle.std.specs.Prelude.{◌≡◌, ◌<◌, ◌≤◌, IfSome, IfOk, IfErr, IsErrOf};
+ghost use Rattle.std.specs.Prelude.{◌≡◌, ◌<◌, ◌≤◌, IfSome, IfOk, IfErr, IsErrOf, OnOk};
+ghost use Rattle.std.specs.FinMap.{get};
 ghost use Rattle.rt_outside.specs.Causes.{Rose};
 ghost use Rattle.rt_outside.specs.Store.{contents_told};
 ghost use Rattle.follow_engine.specs.Deltas.{delta_value};
 ghost use Rattle.follow_engine.specs.Engines.{engine_data};
-ghost use Rattle.run_rows.specs.Followed.{AreTold, IsRowEnd, Takes};
-ghost use Rattle.run_base.specs.Found.{kept_bytes};
+ghost use Rattle.run_base.specs.Counted.{RoseAtMost, RoseBy, counters};
+ghost use Rattle.run_base.specs.Found.{bytes_in, kept_bytes};
+ghost use Rattle.run_rows.specs.Followed.{AreTold, IsRowEnd, RowCounts, Takes};
 
 use crate::changes::push_changes;
 use crate::telling::Telling;
@@ -69,7 +71,9 @@ fn take<D: Ledger, T: Ledger>(
 ) -> Result<RowEnd, AllocError>
     requires feed { row.now.feed < 16 }
     requires applied { (engine_data engine).applied < 1000000 }
-    ensures { IfOk result (Takes telling number row.now (kept_bytes found) engine) }
+    ensures outcome { IfOk result (Takes telling number row.now (kept_bytes found) engine) }
+    ensures counted { OnOk result (RowCounts RoseBy engine row.now (kept_bytes found) (counters decodes.old tests.old) (counters decodes.new tests.new)) }
+    ensures most { RowCounts RoseAtMost engine row.now (kept_bytes found) (counters decodes.old tests.old) (counters decodes.new tests.new) }
 {
     match found {
         Ok(kept) => {
@@ -99,6 +103,10 @@ pub fn take_row<F: Files, D: Ledger, T: Ledger>(
     requires feed { row.now.feed < 16 }
     requires applied { (engine_data engine).applied < 1000000 }
     ensures outcome { IfOk result (IsRowEnd (contents_told (F.state files.old).told) telling number row.now engine) }
+    ensures counted { IfSome (contents_told (F.state files.old).told) (λ held.
+        OnOk result (RowCounts RoseBy engine row.now (bytes_in (get held row.now.path)) (counters decodes.old tests.old) (counters decodes.new tests.new))) }
+    ensures most { IfSome (contents_told (F.state files.old).told) (λ held.
+        RowCounts RoseAtMost engine row.now (bytes_in (get held row.now.path)) (counters decodes.old tests.old) (counters decodes.new tests.new)) }
     ensures contents { contents_told (F.state files.new).told ≡ contents_told (F.state files.old).told }
     ensures asked { IfSome (F.state files.new).asked (λ last. last ≡ row.now.path) }
     ensures later { (F.state files.old).faults ≤ (F.state files.new).faults }

@@ -1,11 +1,13 @@
 //! Snapshots that are taken one after the other.
-ghost use Rattle.std.specs.Prelude.{◌≡◌, ◌<◌, ◌≤◌, ◌||◌, Some, IfSome, IfOk, IfErr, length, slice_get};
+ghost use Rattle.std.specs.Prelude.{◌≡◌, ◌<◌, ◌≤◌, ◌||◌, Some, IfSome, IfOk, IfErr, OnOk, length, slice_get};
 ghost use Rattle.rt_outside.specs.Causes.{Rose};
 ghost use Rattle.rt_outside.specs.Sink.{AppendsPrefix};
 ghost use Rattle.rt_outside.specs.Store.{contents_told};
 ghost use Rattle.feed_list.specs.Lists.{IsWithinLimits};
 ghost use Rattle.rule_history.specs.Answered.{tables_of};
+ghost use Rattle.run_base.specs.Counted.{RoseAtMost, RoseBy, counters};
 ghost use Rattle.run_base.specs.Faults.{SaysFault};
+ghost use Rattle.run_rows.specs.Counted.{outcome_work};
 ghost use Rattle.run_rows.specs.Followed.{IsDone, IsRowFault};
 ghost use Rattle.run_rows.specs.Rows.{all_rows};
 
@@ -50,6 +52,10 @@ pub fn follow_rows<F: Files, S: Sink, D: Ledger, T: Ledger>(
         AppendsPrefix (S.state out.old).written (S.state out.new).written (all_rows telling (tables_of table) held rows.now).text) }
     ensures whole { IfSome (contents_told (F.state files.old).told) (λ held. IfOk result (λ end.
         IsDone (tables_of table) end.engine end.error (S.state out.old).written (S.state out.new).written (all_rows telling (tables_of table) held rows.now))) }
+    ensures counted { IfSome (contents_told (F.state files.old).told) (λ held.
+        OnOk result (RoseBy (outcome_work (tables_of table) (all_rows telling (tables_of table) held rows.now)) (counters decodes.old tests.old) (counters decodes.new tests.new))) }
+    ensures most { IfSome (contents_told (F.state files.old).told) (λ held.
+        RoseAtMost (outcome_work (tables_of table) (all_rows telling (tables_of table) held rows.now)) (counters decodes.old tests.old) (counters decodes.new tests.new)) }
     ensures later { (S.state out.old).faults ≤ (S.state out.new).faults }
     ensures faults { IfErr result (IsRowFault rows.now (F.state files.new).asked
         (Rose (F.state files.old).faults (F.state files.new).faults) (Rose (S.state out.old).faults (S.state out.new).faults)) }

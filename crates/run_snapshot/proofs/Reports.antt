@@ -3,6 +3,7 @@ use Rattle.std.proofs.Common.{◌≡◌, ℕ, suc, ◌<◌, ◌++◌, Bool, List
 use Rattle.std.specs.declared.option.Option.{Option}
 use Rattle.std.specs.FinMap.{get}
 use Rattle.std.specs.List.{flat_map}
+use Rattle.std.proofs.lemmas.List.{length-map}
 use Rattle.rt_outside.specs.Store.{Contents}
 use Rattle.feed_values.specs.Snapshot.{entities_of, entity_of, entity_payloads, header_of}
 use Rattle.feed_values.proofs.SnapshotFields.{snapshot_is_its_fields}
@@ -10,13 +11,18 @@ use Rattle.feed_codec.specs.declared.refusal.Refusal.{Refusal}
 use Rattle.feed_codec.specs.Refusal.{refusal}
 use Rattle.timetable.specs.Timetables.{Tables}
 use Rattle.rule_table.specs.Found.{Found}
-use Rattle.rule_history.specs.History.{feed_limit, feed_limit-is}
+use Rattle.rule_history.specs.History.{entities_in, feed_limit, feed_limit-is}
 use Rattle.judging.specs.Judged.{snapshot_found}
-use Rattle.judging.proofs.OneSnapshot.{one_snapshot}
+use Rattle.judging.specs.Seats.{seats}
+use Rattle.judging.proofs.OneSnapshot.{one_snapshot, seats_are, value_of}
+use Rattle.engine_laws.proofs.Seats.{none_is_lost}
+use Rattle.snapshot_keys.specs.Places.{Places, entity_at, placed}
 use Rattle.rt_report.specs.FindingLines.{finding_text, has_error}
+use Rattle.run_base.specs.Counted.{Work}
 use Rattle.run_base.specs.Found.{bytes_in, unless_faulty}
 use Rattle.run_base.proofs.Chosen.{each}
 use Rattle.run_base.specs.Report.{Report, found, snapshot_report, judged_report}
+use Rattle.run_snapshot.specs.Counted.{found_work, snapshot_work}
 use Rattle.run_snapshot.specs.Reports.{accepted_report, accepted_text, first_taken, found_report, listed_report, snapshot_findings}
 
 -- what an accepted snapshot's bytes give is what it says gives
@@ -29,6 +35,12 @@ as_many bytes = sym (ap length (snapshot_is_its_fields.entities bytes) ∙ longs
     longs : (ps : List (List ℕ)) → length (map entity_of ps) ≡ length ps
     longs [] = refl
     longs (p ∷ ps) = ap suc (longs ps)
+
+-- the places of a snapshot are as many as its entities
+pub as_many_places : (bytes : List ℕ) (es : Places) → placed bytes es ≡ seats 0 (entities_of bytes) → length es ≡ length (entities_of bytes)
+as_many_places bytes es are =
+    sym (length-map es (λ e. (e.0, entity_at bytes e.1))) ∙ ap length (are ∙ sym (seats_are 0 bytes)) ∙ length-map (entities_in 0 bytes) value_of
+    ∙ (none_is_lost (first_taken 0 bytes ∷ []) 0 (first_taken 0 bytes) refl).as_many ∙ as_many bytes
 
 module _ (t : Option Tables) (moment : ℕ) (bytes : List ℕ) where
   abbrev listed : List Found
@@ -45,6 +57,11 @@ module _ (t : Option Tables) (moment : ℕ) (bytes : List ℕ) where
 
   pub accepted_status_is : (error : Bool) → error ≡ has_error listed → found error ≡ (accepted_report t moment bytes).status
   accepted_status_is error e = ap found e ∙ sym (ap (λ r. r.status) accepted_is)
+
+-- what was found in a file is what its work is counted by
+pub work_said : (told : Option Contents) (file : List ℕ) (found : Result (List ℕ) Refusal) → IfSome told (λ held. bytes_in (get held file) ≡ found) → (P : Work → Type 0) →
+    P (found_work found) → IfSome told (λ held. P (snapshot_work (get held file)))
+work_said told file found is P p = each told _ (λ held. P (snapshot_work (get held file))) (λ held e. subst (λ f. P (found_work f)) (sym e) p) is
 
 judged_is : (accepts : List ℕ → Report) (bytes : List ℕ) (o : Option Refusal) → judged_report accepts bytes o ≡ found_report accepts (unless_faulty bytes o)
 judged_is accepts bytes (Some refusal) = refl

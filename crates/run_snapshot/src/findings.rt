@@ -1,5 +1,5 @@
 //! The findings of a snapshot by itself, as lines.
-ghost use Rattle.std.specs.Prelude.{◌≡◌, ◌<◌, ◌≤◌, ◌++◌, List, Option, OnOk, OnErr, IfOk, IsErrOf, length};
+ghost use Rattle.std.specs.Prelude.{◌≡◌, ◌+◌, ◌<◌, ◌≤◌, ◌++◌, List, Option, OnOk, OnErr, IfOk, IsErrOf, length};
 ghost use Rattle.std.specs.Io.KnownBytes.{append_known};
 ghost use Rattle.std.specs.List.{flat_map};
 ghost use Rattle.rt_outside.specs.Causes.{Rose};
@@ -14,6 +14,8 @@ ghost use Rattle.judging.specs.Whole.{entity_found, header_found};
 ghost use Rattle.judging.specs.Judged.{first_answer, first_heads, found_at_seats, snapshot_found};
 ghost use Rattle.snapshot_keys.specs.Places.{AreWithin, entity_at, placed};
 ghost use Rattle.rt_report.specs.FindingLines.{AddsLines, finding_text, has_error};
+ghost use Rattle.run_base.specs.Counted.{RoseAtMost, RoseBy, counters};
+ghost use Rattle.run_snapshot.specs.Counted.{entities_work, first_work};
 ghost use Rattle.run_snapshot.specs.Sending.{Sends, SendsPart};
 
 use crate::sending::send;
@@ -28,7 +30,7 @@ use run_base::Fault;
 use snapshot_keys::{places, rows_of};
 use std::alloc::{AllocError, Global};
 use std::collections::BTreeMap;
-use std::sync::ledger::{Blank, Ledger};
+use std::sync::ledger::Ledger;
 use timetable::Timetable;
 
 /// Appends the findings on the header of feed 0.
@@ -40,7 +42,9 @@ fn judge_header<L: Ledger>(
     lines: &mut Lines,
     tests: &mut Steps<L>,
 ) -> Result<(), AllocError>
-    ensures { OnOk result ((t : Option Tables) (rows : List PairRow) → AddsLines lines.old lines.new (header_found t rows (first_heads (feed_header_value header.now) moment) 0)) }
+    ensures added { OnOk result ((t : Option Tables) (rows : List PairRow) → AddsLines lines.old lines.new (header_found t rows (first_heads (feed_header_value header.now) moment) 0)) }
+    ensures ticked { OnOk result (tests.new ≡ tests.old + 10) }
+    ensures most { tests.new ≤ tests.old + 10 }
 {
     let found = rules.judge_header(alloc, 0, header, None, false, moment, tests)?;
     lines.push(alloc, found.as_slice())
@@ -75,7 +79,7 @@ fn send_marked<P: PairView, S: Sink>(
 }
 
 /// Sends the findings at the entity of a kept snapshot that has this number, which is decoded for it.
-fn send_entity<P: PairView, L: Ledger, S: Sink>(
+fn send_entity<P: PairView, S: Sink, D: Ledger, T: Ledger>(
     alloc: Global,
     timetable: &Timetable,
     view: &P,
@@ -85,8 +89,9 @@ fn send_entity<P: PairView, L: Ledger, S: Sink>(
     key: &EntityKey,
     place: usize,
     lines: &mut Lines,
-    steps: &mut Steps<L>,
     out: &mut S,
+    decodes: &mut Steps<D>,
+    tests: &mut Steps<T>,
 ) -> Result<(), Fault>
     requires { place < length (entity_payloads kept.now) }
     ensures sent { OnOk result (Sends (S.state out.old).written (S.state out.new).written lines.old lines.new
@@ -96,16 +101,18 @@ fn send_entity<P: PairView, L: Ledger, S: Sink>(
     ensures not_read { IsErrOf result Fault.Read → ⊥ }
     ensures later { (S.state out.old).faults ≤ (S.state out.new).faults }
     ensures write { IsErrOf result Fault.Write → Rose (S.state out.old).faults (S.state out.new).faults }
+    ensures counted { OnOk result (RoseBy (entities_work 1) (counters decodes.old tests.old) (counters decodes.new tests.new)) }
+    ensures most { RoseAtMost (entities_work 1) (counters decodes.old tests.old) (counters decodes.new tests.new) }
 {
-    let entity = decode_entity(alloc, kept.entity(place), steps)?;
-    let marks = marks_at(alloc, timetable, view, header, moment, key, &entity, steps)?;
+    let entity = decode_entity(alloc, kept.entity(place), decodes)?;
+    let marks = marks_at(alloc, timetable, view, header, moment, key, &entity, tests)?;
     send_marked(
         alloc, timetable, view, header, moment, key, &entity, &marks, lines, out,
     )
 }
 
 /// Sends the findings at the entities of a kept snapshot, one entity after the other.
-fn send_entities<P: PairView, L: Ledger, S: Sink>(
+fn send_entities<P: PairView, S: Sink, D: Ledger, T: Ledger>(
     alloc: Global,
     timetable: &Timetable,
     view: &P,
@@ -114,8 +121,9 @@ fn send_entities<P: PairView, L: Ledger, S: Sink>(
     kept: &Kept,
     places: &BTreeMap<EntityKey, usize>,
     lines: &mut Lines,
-    steps: &mut Steps<L>,
     out: &mut S,
+    decodes: &mut Steps<D>,
+    tests: &mut Steps<T>,
 ) -> Result<(), Fault>
     requires { AreWithin kept.now places.now.entries }
     ensures sent { OnOk result (Sends (S.state out.old).written (S.state out.new).written lines.old lines.new
@@ -125,29 +133,28 @@ fn send_entities<P: PairView, L: Ledger, S: Sink>(
     ensures not_read { IsErrOf result Fault.Read → ⊥ }
     ensures later { (S.state out.old).faults ≤ (S.state out.new).faults }
     ensures write { IsErrOf result Fault.Write → Rose (S.state out.old).faults (S.state out.new).faults }
+    ensures counted { OnOk result (RoseBy (entities_work (length places.now.entries)) (counters decodes.old tests.old) (counters decodes.new tests.new)) }
+    ensures most { RoseAtMost (entities_work (length places.now.entries)) (counters decodes.old tests.old) (counters decodes.new tests.new) }
 {
     for (key, place) in places {
         send_entity(
-            alloc, timetable, view, header, moment, kept, key, *place, lines, steps, out,
+            alloc, timetable, view, header, moment, kept, key, *place, lines, out, decodes, tests,
         )?;
     }
     Ok(())
 }
 
-/// Sends the findings of an accepted snapshot of feed 0, which is the first one of all, behind the lines that are held back. The
-/// counter is its own.
-fn send_snapshot<L: Ledger, S: Sink>(
+/// Sends the findings of an accepted snapshot of feed 0, which is the first one of all, behind the lines that are held back.
+fn send_snapshot<S: Sink, D: Ledger, T: Ledger>(
     alloc: Global,
     timetable: &Timetable,
     moment: u64,
     kept: &Kept,
     lines: &mut Lines,
-    blank: Blank,
     out: &mut S,
+    decodes: &mut Steps<D>,
+    tests: &mut Steps<T>,
 ) -> Result<(), Fault>
-    requires name { blank.name ≡ L.name }
-    requires parts { blank.parts ≡ L.parts }
-    requires one { blank.parts ≡ 1 }
     ensures sent { OnOk result (Sends (S.state out.old).written (S.state out.new).written lines.old lines.new
         (snapshot_found (tables_of timetable.now) 0 moment (header_of kept.now) (entities_of kept.now))) }
     ensures part { OnErr result (SendsPart (S.state out.old).written (S.state out.new).written lines.old
@@ -155,15 +162,16 @@ fn send_snapshot<L: Ledger, S: Sink>(
     ensures not_read { IsErrOf result Fault.Read → ⊥ }
     ensures later { (S.state out.old).faults ≤ (S.state out.new).faults }
     ensures write { IsErrOf result Fault.Write → Rose (S.state out.old).faults (S.state out.new).faults }
+    ensures counted { OnOk result (RoseBy (first_work (length (entities_of kept.now))) (counters decodes.old tests.old) (counters decodes.new tests.new)) }
+    ensures most { RoseAtMost (first_work (length (entities_of kept.now))) (counters decodes.old tests.old) (counters decodes.new tests.new) }
 {
     let rules = AllRules::new();
-    let mut steps: Steps<L> = Steps::new(blank);
     let header = decode_header(alloc, kept.header_parts())?;
     let places = places(alloc, 0, kept)?;
     let rows = rows_of(alloc, kept, &places)?;
-    judge_header(alloc, &rules, &header, moment, lines, &mut steps)?;
+    judge_header(alloc, &rules, &header, moment, lines, tests)?;
     send_entities(
-        alloc, timetable, &rows, &header, moment, kept, &places, lines, &mut steps, out,
+        alloc, timetable, &rows, &header, moment, kept, &places, lines, out, decodes, tests,
     )
 }
 
@@ -172,19 +180,17 @@ fn send_snapshot<L: Ledger, S: Sink>(
 ///
 /// No more than one entity is held decoded, with a mark of a few bytes for each of its findings, and no more than one finding;
 /// lines are written as soon as they fill a piece. So memory grows with the bytes of the snapshot, the ids of its entities and
-/// the largest entity, and not with what all of them hold or what is found. The counter is its own.
-pub fn put_findings<L: Ledger, S: Sink>(
+/// the largest entity, and not with what all of them hold or what is found.
+pub fn put_findings<S: Sink, D: Ledger, T: Ledger>(
     alloc: Global,
     timetable: &Timetable,
     moment: u64,
     kept: &Kept,
     first: Vec<u8>,
-    blank: Blank,
     out: &mut S,
+    decodes: &mut Steps<D>,
+    tests: &mut Steps<T>,
 ) -> Result<bool, Fault>
-    requires name { blank.name ≡ L.name }
-    requires parts { blank.parts ≡ L.parts }
-    requires one { blank.parts ≡ 1 }
     ensures text { AppendsPrefix (S.state out.old).written (S.state out.new).written
         (first.items ++ flat_map finding_text (snapshot_found (tables_of timetable.now) 0 moment (header_of kept.now) (entities_of kept.now))) }
     ensures whole { IfOk result (λ error.
@@ -192,12 +198,16 @@ pub fn put_findings<L: Ledger, S: Sink>(
         (error ≡ has_error found) × ((S.state out.new).written ≡ append_known (S.state out.old).written (first.items ++ flat_map finding_text found))) }
     ensures not_read { IsErrOf result Fault.Read → ⊥ }
     ensures write { IsErrOf result Fault.Write → Rose (S.state out.old).faults (S.state out.new).faults }
+    ensures counted { OnOk result (RoseBy (first_work (length (entities_of kept.now))) (counters decodes.old tests.old) (counters decodes.new tests.new)) }
+    ensures most { RoseAtMost (first_work (length (entities_of kept.now))) (counters decodes.old tests.old) (counters decodes.new tests.new) }
 {
     let mut lines = Lines {
         text: first,
         error: false,
     };
-    send_snapshot::<L, S>(alloc, timetable, moment, kept, &mut lines, blank, out)?;
+    send_snapshot(
+        alloc, timetable, moment, kept, &mut lines, out, decodes, tests,
+    )?;
     put_all(out, &lines.text)?;
     Ok(lines.error)
 }

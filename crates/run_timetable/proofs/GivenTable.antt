@@ -14,6 +14,7 @@ use Rattle.timetable.specs.declared.timetable.Timetable.{Timetable}
 use Rattle.run_base.specs.declared.input_fault.InputFault.{InputFault}
 use Rattle.run_base.specs.declared.status.Status.{Status}
 use Rattle.run_base.specs.Carried.{CarriesOut, exactly}
+use Rattle.run_base.specs.Counted.{Work}
 use Rattle.run_base.specs.Faults.{IsErrorText, says_refused}
 use Rattle.run_base.specs.Inputs.{FailsAt, SaysInputFault, TellsInput}
 use Rattle.run_base.specs.Outside.{outside}
@@ -21,7 +22,7 @@ use Rattle.run_base.specs.Report.{Report, refused_input}
 use Rattle.run_base.proofs.Carried.{carried_input, input_more}
 use Rattle.run_base.proofs.Chosen.{carried_within, each}
 use Rattle.run_base.proofs.Told.{error_text_more}
-use Rattle.run_timetable.specs.Timetables.{IsGiven, IsLoadText, IsTableFile, TellsLoadFault, accepted_tables, refusal_of, refusal_text, tables_had, timetable_of, timetable_refusal, unless_refused, with_timetable}
+use Rattle.run_timetable.specs.Timetables.{IsGiven, IsLoadText, IsTableFile, TellsLoadFault, accepted_tables, refusal_of, refusal_text, tables_had, timetable_of, timetable_refusal, unless_refused, with_timetable, work_unless_refused, work_with_timetable}
 
 none_refused : (contents : Contents) → timetable_refusal None contents ≡ None
 unfolding timetable_refusal
@@ -117,3 +118,10 @@ pub report_refused : (report : Option Tables → Contents → Report) (told : Op
 report_refused report told folder fault is =
     each told (λ held. tables_of folder held ≡ Err fault) (λ held. with_timetable report (Some folder) held ≡ refused_input (refusal_text folder fault))
     (λ held e. ap (λ text. unless_refused text (report (timetable_of (Some folder) held) held)) (refused folder held fault e)) is
+
+-- where the timetable is had the work is that with its tables
+pub work_given : (work : Option Tables → Contents → Work) (folder : Option (List ℕ)) (told : Option Contents) (t : Timetable) → IfSome told (λ held. IsGiven folder held t) →
+    IfSome told (λ held. work (tables_had t) held ≡ work_with_timetable work folder held)
+work_given work folder told t is =
+    each told (λ held. IsGiven folder held t) (λ held. work (tables_had t) held ≡ work_with_timetable work folder held)
+    (λ held g. ap (λ u. work u held) (sym g.1) ∙ ap (λ text. work_unless_refused text (work (timetable_of folder held) held)) (sym g.0)) is

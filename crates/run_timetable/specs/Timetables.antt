@@ -10,6 +10,7 @@ use Rattle.timetable.specs.declared.LoadFault.TheVariants.{MissingFile, MissingC
 use Rattle.timetable.specs.declared.File.{File}
 use Rattle.timetable.specs.declared.timetable.Timetable.{Timetable}
 use Rattle.run_base.specs.declared.input_fault.InputFault.{InputFault}
+use Rattle.run_base.specs.Counted.{Work, no_work}
 use Rattle.run_base.specs.Faults.{IsErrorText, refused_text}
 use Rattle.run_base.specs.Inputs.{TellsInput}
 use Rattle.run_base.specs.Report.{Report, refused_input}
@@ -80,3 +81,11 @@ unless_refused (Some text) report = refused_input text
 
 abbrev pub with_timetable : (Option Tables → Contents → Report) → Option (List ℕ) → Contents → Report
 with_timetable report folder contents = unless_refused (timetable_refusal folder contents) (report (timetable_of folder contents) contents)
+
+-- the work of a run with it: none where it is refused
+abbrev pub work_unless_refused : Option (List ℕ) → Work → Work
+work_unless_refused None work = work
+work_unless_refused (Some text) work = no_work
+
+abbrev pub work_with_timetable : (Option Tables → Contents → Work) → Option (List ℕ) → Contents → Work
+work_with_timetable work folder contents = work_unless_refused (timetable_refusal folder contents) (work (timetable_of folder contents) contents)

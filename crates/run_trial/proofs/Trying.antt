@@ -25,9 +25,13 @@ use Rattle.engine_laws.specs.Standings.{StandsFor}
 use Rattle.timetable.specs.Lookups.{is_present, tables_in}
 use Rattle.timetable.specs.declared.timetable.Timetable.{Timetable}
 use Rattle.run_timetable.specs.Timetables.{refusal_text, tables_had}
-use Rattle.run_trial.specs.Tried.{trial_folder, IsSummedUp, added, deltas, history_report, history_text, numbered, summary_text, sums_of, sums_over, trial_report}
+use Rattle.run_trial.specs.Tried.{trial_folder, IsSummedUp, added, deltas, history_report, history_text, numbered, summary_text, sums_of, sums_over, trial_report, trial_work}
+use Rattle.run_base.specs.Counted.{RoseAtMost, RoseBy, Work}
 use Rattle.run_base.specs.Report.{refused_input}
-use Rattle.run_timetable.proofs.GivenTable.{folder_given, report_given, report_refused}
+use Rattle.run_base.proofs.Counted.{most_both, at_most, by_none, by_both}
+use Rattle.run_rows.specs.Counted.{history_work, work_of}
+use Rattle.run_rows.proofs.Counted.{most_front, work_with}
+use Rattle.run_timetable.proofs.GivenTable.{folder_given, report_given, report_refused, work_given}
 
 -- ---- sums
 -- what one snapshot more changes stands behind what those before it changed
@@ -74,47 +78,77 @@ summed_next t h s before after d is stands changes sums =
     }
 
 -- ---- all of them
--- the first so many were taken, and what the state makes is the rest
-pub record IsTrying (t : Option Tables) (seed number : ℕ) (m : Moving) (end : TrialEnd) : Type 0 where
+-- the first so many were taken and counted, and what the state makes is the rest
+pub record IsTrying (t : Option Tables) (seed number : ℕ) (m : Moving) (end : TrialEnd) (old now : Work) : Type 0 where
   pub history : List Snapshot
   pub summed_up : IsSummedUp t history end
+  pub counted : RoseBy (history_work t history) old now
   pub within : length history < number + 1
   pub all_are : history ++ snapshots_from (40 - number) number m ≡ trial_snapshots seed
 
-pub trying_none : (t : Option Tables) (seed : ℕ) (m : Moving) (end : TrialEnd) → StandsFor (engine_data end.engine) t [] → m ≡ begun seed → end.sums ≡ sums_over [] → IsTrying t seed 0 m end
-trying_none t seed m end stands start none = record {
+pub trying_none : (t : Option Tables) (seed : ℕ) (m : Moving) (end : TrialEnd) (old : Work) → StandsFor (engine_data end.engine) t [] → m ≡ begun seed → end.sums ≡ sums_over [] → IsTrying t seed 0 m end old old
+trying_none t seed m end old stands start none = record {
   history = [];
   summed_up = record { stands_for = stands; sums_are = none };
+  counted = by_none old;
   within = omega arith;
   all_are = ap (snapshots_from 40 0) start ∙ sym (all_snapshots seed);
 }
 
-pub trying_next : (t : Option Tables) (seed number : ℕ) (m next : Moving) (before after : TrialEnd) → number < 40 → next ≡ advanced number m → (i : IsTrying t seed number m before) →
-    IsSummedUp t (with i.history (snapshot_of number next)) after → IsTrying t seed (number + 1) next after
-trying_next t seed number m next before after l is i summed = record {
-  history = with i.history (snapshot_of number next);
-  summed_up = summed;
-  within = omega (arith, i.within, length-append i.history (snapshot_of number next ∷ []));
-  all_are = append_assoc i.history (snapshot_of number next ∷ []) (left next)
-      ∙ ap (λ x. i.history ++ (snapshot_of number x ∷ left x)) is
-      ∙ ap (λ ss. i.history ++ ss) (sym (first_snapshot (40 - (number + 1)) number m) ∙ ap (λ n. snapshots_from n number m) (one_fewer number l))
-      ∙ i.all_are;
-}
-  where
-    left : Moving → List Snapshot
+module _ (t : Option Tables) (seed number : ℕ) (m : Moving) (end : TrialEnd) (old now : Work) (i : IsTrying t seed number m end old now) where
+  -- one more
+  module _ (next : Moving) (l : number < 40) (is : next ≡ advanced number m) where
+    abbrev left : Moving → List Snapshot
     left x = snapshots_from (40 - (number + 1)) (number + 1) x
 
-    one_fewer : (n : ℕ) → n < 40 → suc (40 - (n + 1)) ≡ 40 - n
-    one_fewer n l = omega (arith, l)
-
-pub trying_all : (t : Option Tables) (seed number : ℕ) (m : Moving) (end : TrialEnd) → 40 ≤ number → IsTrying t seed number m end → IsSummedUp t (trial_snapshots seed) end
-trying_all t seed number m end l i = subst (λ h. IsSummedUp t h end) (sym (append-nil i.history) ∙ ap (λ ss. i.history ++ ss) (sym (none_left number l)) ∙ i.all_are) i.summed_up
-  where
-    none_left : (n : ℕ) → 40 ≤ n → snapshots_from (40 - n) n m ≡ []
-    none_left n l = ap (λ k. snapshots_from k n m) (zero_left n l) ∙ no_snapshots n m
+    all_are : with i.history (snapshot_of number next) ++ left next ≡ trial_snapshots seed
+    all_are =
+        append_assoc i.history (snapshot_of number next ∷ []) (left next)
+        ∙ ap (λ x. i.history ++ (snapshot_of number x ∷ left x)) is
+        ∙ ap (λ ss. i.history ++ ss) (sym (first_snapshot (40 - (number + 1)) number m) ∙ ap (λ n. snapshots_from n number m) (one_fewer number l))
+        ∙ i.all_are
       where
-        zero_left : (n : ℕ) → 40 ≤ n → 40 - n ≡ 0
-        zero_left n l = omega (arith, l)
+        one_fewer : (n : ℕ) → n < 40 → suc (40 - (n + 1)) ≡ 40 - n
+        one_fewer n l = omega (arith, l)
+
+    pub trying_next : (after : TrialEnd) (new : Work) → IsSummedUp t (with i.history (snapshot_of number next)) after → RoseBy (work_of t i.history (snapshot_of number next)) now new →
+        IsTrying t seed (number + 1) next after old new
+    trying_next after new summed rose = record {
+      history = with i.history (snapshot_of number next);
+      summed_up = summed;
+      counted = subst (λ w. RoseBy w old new) (sym (work_with t i.history (snapshot_of number next))) (by_both _ _ old now new i.counted rose);
+      within = omega (arith, i.within, length-append i.history (snapshot_of number next ∷ []));
+      all_are = all_are;
+    }
+
+    pub trying_most_next : (new : Work) → RoseAtMost (work_of t i.history (snapshot_of number next)) now new → RoseAtMost (history_work t (trial_snapshots seed)) old new
+    trying_most_next new most =
+        subst (λ h. RoseAtMost (history_work t h) old new) all_are
+        (most_front t (with i.history (snapshot_of number next)) (left next) old new
+        (subst (λ w. RoseAtMost w old new) (sym (work_with t i.history (snapshot_of number next))) (most_both _ _ old now new i.counted most)))
+
+  -- no more than for all
+  pub trying_most : RoseAtMost (history_work t (trial_snapshots seed)) old now
+  trying_most =
+      subst (λ h. RoseAtMost (history_work t h) old now) i.all_are
+      (most_front t i.history (snapshots_from (40 - number) number m) old now (at_most _ old now i.counted))
+
+  -- all of them
+  module _ (l : 40 ≤ number) where
+    history_is : i.history ≡ trial_snapshots seed
+    history_is = sym (append-nil i.history) ∙ ap (λ ss. i.history ++ ss) (sym (none_left number l)) ∙ i.all_are
+      where
+        none_left : (n : ℕ) → 40 ≤ n → snapshots_from (40 - n) n m ≡ []
+        none_left n l = ap (λ k. snapshots_from k n m) (zero_left n l) ∙ no_snapshots n m
+          where
+            zero_left : (n : ℕ) → 40 ≤ n → 40 - n ≡ 0
+            zero_left n l = omega (arith, l)
+
+    pub trying_all : IsSummedUp t (trial_snapshots seed) end
+    trying_all = subst (λ h. IsSummedUp t h end) history_is i.summed_up
+
+    pub trying_counted : RoseBy (history_work t (trial_snapshots seed)) old now
+    trying_counted = subst (λ h. RoseBy (history_work t h) old now) history_is i.counted
 
 -- ---- the line that sums up
 pub summed_text : (t : Option Tables) (h : List Snapshot) (end : TrialEnd) (r : Result (Vec ℕ Global) AllocError) → IsSummedUp t h end →
@@ -131,6 +165,13 @@ pub with_timetable_of_trial : (seed : ℕ) (t : Timetable) (contents : Contents)
     history_report (tables_had t) (trial_snapshots seed) ≡ trial_report seed
 with_timetable_of_trial seed t contents same present loaded =
     report_given (λ u c. history_report u (trial_snapshots seed)) (Some trial_folder) (Some trial_contents) t
+    (folder_given (Some trial_contents) trial_folder t present (subst (λ c. tables_of trial_folder c ≡ Ok (tables_in t)) same loaded))
+
+-- and so is the work
+pub work_with_timetable_of_trial : (seed : ℕ) (t : Timetable) (contents : Contents) → contents ≡ trial_contents → is_present t ≡ true → tables_of trial_folder contents ≡ Ok (tables_in t) →
+    history_work (tables_had t) (trial_snapshots seed) ≡ trial_work seed
+work_with_timetable_of_trial seed t contents same present loaded =
+    work_given (λ u c. history_work u (trial_snapshots seed)) (Some trial_folder) (Some trial_contents) t
     (folder_given (Some trial_contents) trial_folder t present (subst (λ c. tables_of trial_folder c ≡ Ok (tables_in t)) same loaded))
 
 -- where it is refused that is the report

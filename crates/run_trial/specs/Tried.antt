@@ -16,8 +16,10 @@ use Rattle.run_trial.specs.declared.sums.Sums.{Sums}
 use Rattle.run_trial.specs.declared.summing.TrialEnd.{TrialEnd}
 use Rattle.engine_laws.specs.Standings.{StandsFor}
 use Rattle.follow_engine.specs.Engines.{engine_data}
+use Rattle.run_base.specs.Counted.{Work}
 use Rattle.run_base.specs.Report.{Report}
-use Rattle.run_timetable.specs.Timetables.{IsTableFile, with_timetable}
+use Rattle.run_rows.specs.Counted.{history_work}
+use Rattle.run_timetable.specs.Timetables.{IsTableFile, with_timetable, work_with_timetable}
 
 -- ---- what changes
 -- what each of some snapshots changes, where others came before them
@@ -70,6 +72,10 @@ IsTrialFile name = IsTableFile (Some trial_folder) name
 -- on all 40 snapshots that a seed gives, with the timetable that the folder holds
 abbrev pub trial_report : ℕ → Report
 trial_report seed = with_timetable (λ t contents. history_report t (trial_snapshots seed)) (Some trial_folder) trial_contents
+
+-- how much it decodes and tests
+abbrev pub trial_work : ℕ → Work
+trial_work seed = work_with_timetable (λ t contents. history_work t (trial_snapshots seed)) (Some trial_folder) trial_contents
 
 -- ---- in the code, which the report doesn't speak of
 -- the sums with those over one snapshot more

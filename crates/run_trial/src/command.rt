@@ -1,11 +1,13 @@
 //! The command `trial`.
-ghost use Rattle.std.specs.Prelude.{List, ℕ};
-ghost use Rattle.rt_outside.specs.Store.{FilesState};
+ghost use Rattle.std.specs.Prelude.{List, Option, ℕ};
+ghost use Rattle.rt_outside.specs.Store.{Contents, FilesState};
 ghost use Rattle.rule_history.specs.Answered.{tables_of};
 ghost use Rattle.run_base.specs.Carried.{CarriesOut, exactly};
+ghost use Rattle.run_base.specs.Counted.{IsCounted, counters};
+ghost use Rattle.run_rows.specs.Counted.{history_work};
 ghost use Rattle.trial_feed.specs.Snapshots.{trial_snapshots};
 ghost use Rattle.run_base.specs.Outside.{outside};
-ghost use Rattle.run_trial.specs.Tried.{IsTrialFile, history_report, trial_report};
+ghost use Rattle.run_trial.specs.Tried.{IsTrialFile, history_report, trial_report, trial_work};
 
 use crate::summing::sum_up;
 use rt_outside::{Sink, Steps, put_all};
@@ -26,9 +28,10 @@ pub fn trial<S: Sink, E: Sink, D: Ledger, T: Ledger>(
     decodes: &mut Steps<D>,
     tests: &mut Steps<T>,
 ) -> Status
-    ensures { (files : FilesState) → CarriesOut (exactly (λ held. trial_report seed)) IsTrialFile
+    ensures carried { (files : FilesState) → CarriesOut (exactly (λ held. trial_report seed)) IsTrialFile
         (outside files (S.state out.old) (E.state err.old))
         (outside files (S.state out.new) (E.state err.new)) result }
+    ensures counted { (told : Option Contents) → IsCounted (λ held. trial_work seed) told (counters decodes.old tests.old) (counters decodes.new tests.new) result }
 {
     let Ok(mut files) = timetable_files(alloc) else {
         return say_memory(err);
@@ -49,9 +52,10 @@ fn write_sum<S: Sink, E: Sink, D: Ledger, T: Ledger>(
     decodes: &mut Steps<D>,
     tests: &mut Steps<T>,
 ) -> Status
-    ensures { (files : FilesState) → CarriesOut (exactly (λ held. history_report (tables_of timetable) (trial_snapshots seed))) IsTrialFile
+    ensures carried { (files : FilesState) → CarriesOut (exactly (λ held. history_report (tables_of timetable) (trial_snapshots seed))) IsTrialFile
         (outside files (S.state out.old) (E.state err.old))
         (outside files (S.state out.new) (E.state err.new)) result }
+    ensures counted { (told : Option Contents) → IsCounted (λ held. history_work (tables_of timetable) (trial_snapshots seed)) told (counters decodes.old tests.old) (counters decodes.new tests.new) result }
 {
     let Ok(text) = sum_up(alloc, timetable, seed, decodes, tests) else {
         return say_memory(err);

@@ -1,11 +1,13 @@
 //! The snapshots of the trial, taken one after the other and summed up.
-ghost use Rattle.std.specs.Prelude.{◌≡◌, ◌<◌, None, List, Option, IfOk, length};
+ghost use Rattle.std.specs.Prelude.{◌≡◌, ◌<◌, None, List, OnOk, Option, IfOk, length};
 ghost use Rattle.feed_codec.specs.Refusal.{refusal};
 ghost use Rattle.follow_engine.specs.Engines.{engine_data};
 ghost use Rattle.rule_history.specs.Answered.{tables_of};
 ghost use Rattle.rule_history.specs.Changed.{with};
 ghost use Rattle.rule_history.specs.History.{Snapshot};
 ghost use Rattle.timetable.specs.Timetables.{Tables};
+ghost use Rattle.run_base.specs.Counted.{RoseAtMost, RoseBy, counters};
+ghost use Rattle.run_rows.specs.Counted.{history_work, work_of};
 ghost use Rattle.trial_feed.specs.Snapshots.{trial_snapshots};
 ghost use Rattle.run_trial.specs.Tried.{IsSummedUp, history_text, numbered, summary_text};
 
@@ -41,7 +43,11 @@ impl TrialEnd {
     ) -> Result<TrialEnd, AllocError>
         requires number { number < SNAPSHOTS }
         requires applied { (engine_data self.engine).applied < 1000000 }
-        ensures { IfOk result (λ end. (t : Option Tables) (h : List Snapshot) → IsSummedUp t h self → IsSummedUp t (with h (numbered number kept)) end) }
+        ensures summed_up { IfOk result (λ end. (t : Option Tables) (h : List Snapshot) → IsSummedUp t h self → IsSummedUp t (with h (numbered number kept)) end) }
+        ensures counted { OnOk result ((t : Option Tables) (h : List Snapshot) → IsSummedUp t h self
+            → RoseBy (work_of t h (numbered number kept)) (counters decodes.old tests.old) (counters decodes.new tests.new)) }
+        ensures most { (t : Option Tables) (h : List Snapshot) → IsSummedUp t h self
+            → RoseAtMost (work_of t h (numbered number kept)) (counters decodes.old tests.old) (counters decodes.new tests.new) }
     {
         let TrialEnd { engine, sums } = self;
         let (engine, delta) = engine.apply(
@@ -111,7 +117,9 @@ fn take_all<D: Ledger, T: Ledger>(
     decodes: &mut Steps<D>,
     tests: &mut Steps<T>,
 ) -> Result<TrialEnd, AllocError>
-    ensures { IfOk result (IsSummedUp (tables_of timetable) (trial_snapshots seed)) }
+    ensures summed_up { IfOk result (IsSummedUp (tables_of timetable) (trial_snapshots seed)) }
+    ensures counted { OnOk result (RoseBy (history_work (tables_of timetable) (trial_snapshots seed)) (counters decodes.old tests.old) (counters decodes.new tests.new)) }
+    ensures most { RoseAtMost (history_work (tables_of timetable) (trial_snapshots seed)) (counters decodes.old tests.old) (counters decodes.new tests.new) }
 {
     let mut trial = Trial::new(alloc, seed)?;
     let mut end = TrialEnd {
@@ -135,7 +143,9 @@ pub fn sum_up<D: Ledger, T: Ledger>(
     decodes: &mut Steps<D>,
     tests: &mut Steps<T>,
 ) -> Result<Vec<u8>, AllocError>
-    ensures { IfOk result (λ text. text.items ≡ history_text (tables_of timetable) (trial_snapshots seed)) }
+    ensures text { IfOk result (λ text. text.items ≡ history_text (tables_of timetable) (trial_snapshots seed)) }
+    ensures counted { OnOk result (RoseBy (history_work (tables_of timetable) (trial_snapshots seed)) (counters decodes.old tests.old) (counters decodes.new tests.new)) }
+    ensures most { RoseAtMost (history_work (tables_of timetable) (trial_snapshots seed)) (counters decodes.old tests.old) (counters decodes.new tests.new) }
 {
     let end = take_all(alloc, timetable, seed, decodes, tests)?;
     end.summary(alloc)

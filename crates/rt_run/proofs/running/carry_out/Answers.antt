@@ -1,40 +1,41 @@
-use Rattle.std.proofs.Common.{refl}
+use Rattle.std.proofs.Common.{ap, refl, subst, sym, ◌∙◌}
+use Rattle.std.specs.Option.{option_copied}
 use Rattle.rt_outside.specs.Store.{contents_told}
-use Rattle.run_json.specs.Reports.{shown_report, encode_report}
-use Rattle.run_base.specs.Report.{file_report}
-use Rattle.run_verify.specs.Verified.{verify_report}
-use Rattle.rt_run.proofs.Asked.{alerts_at, carried_at, carried_listed, one_predicted}
-use Rattle.run_base.proofs.Chosen.{carried_name}
+use Rattle.run_base.specs.Counted.{counters}
+use Rattle.run_alerts.specs.Alerts.{alerts_work}
+use Rattle.run_check.specs.Check.{check_work}
+use Rattle.run_follow.specs.Follow.{follow_work}
+use Rattle.rt_run.proofs.Asked.{alerts_at, carried_at, carried_listed, counted_same, nothing_counted}
 use Rattle.rt_run.proofs.running.carry_out.Goals as goal
 
 pub returns-in-Check-clause-carried : goal.returns-in-Check-clause-carried
 returns-in-Check-clause-carried g c =
     rw c.in-Check.is (carried_at _ _ c.unwrap_or-moment.result _ _ _ _ _ c.check.result c.as_ref-folder.ensures.value c.unwrap_or-moment.ensures refl c.check.ensures.carried)
 
+pub returns-in-Check-clause-counted : goal.returns-in-Check-clause-counted
+returns-in-Check-clause-counted g c =
+    rw c.in-Check.is (counted_same _ _ _ _ _ c.check.result
+    (ap (λ folder. check_work folder c.unwrap_or-moment.result c.in-Check.names) c.as_ref-folder.ensures.value ∙ ap (λ moment. check_work c.in-Check.folder moment c.in-Check.names) c.unwrap_or-moment.ensures) c.check.ensures.counted)
+
 pub returns-in-Follow-clause-carried : goal.returns-in-Follow-clause-carried
 returns-in-Follow-clause-carried g c =
-    rw c.in-Follow.is (carried_listed _ _ _ _ _ _ _ c.follow.result c.as_ref-folder-in-Follow.ensures.value c.as_str.ensures c.follow.ensures)
+    rw c.in-Follow.is (carried_listed _ _ _ _ _ _ _ c.follow.result c.as_ref-folder-in-Follow.ensures.value c.as_str-list.ensures c.follow.ensures.carried)
 
-pub returns-in-Predict-clause-carried : goal.returns-in-Predict-clause-carried
-returns-in-Predict-clause-carried g c =
-    rw c.in-Predict.is (one_predicted (contents_told (g.F.Files.state c.args.files.now).told) _ c.in-Predict.moment c.args.now _ _ _ _ _ _ _ c.predict.result c.as_str-in-Predict.ensures c.unwrap_or-moment-in-Predict.ensures c.as_str-in-Predict-2.ensures c.predict.ensures)
-
-pub returns-in-Show-clause-carried : goal.returns-in-Show-clause-carried
-returns-in-Show-clause-carried g c =
-    rw c.in-Show.is (carried_name (file_report shown_report) _ _ _ _ c.show.result c.as_str-in-Show.ensures c.show.ensures)
-
-pub returns-in-Encode-clause-carried : goal.returns-in-Encode-clause-carried
-returns-in-Encode-clause-carried g c = rw c.in-Encode.is (carried_name encode_report _ _ _ _ c.encode.result c.as_str-in-Encode.ensures c.encode.ensures)
-
-pub returns-in-Merge-clause-carried : goal.returns-in-Merge-clause-carried
-returns-in-Merge-clause-carried g c = rw c.in-Merge.is c.merge.ensures
+pub returns-in-Follow-clause-counted : goal.returns-in-Follow-clause-counted
+returns-in-Follow-clause-counted g c =
+    rw c.in-Follow.is (counted_same _ _ _ _ _ c.follow.result
+    (ap (λ folder. follow_work folder c.as_str-list.result.now) c.as_ref-folder-in-Follow.ensures.value ∙ ap (follow_work _) c.as_str-list.ensures) c.follow.ensures.counted)
 
 pub returns-in-Trial-clause-carried : goal.returns-in-Trial-clause-carried
-returns-in-Trial-clause-carried g c = rw c.in-Trial.is (c.trial.ensures (g.F.Files.state c.args.files.now))
+returns-in-Trial-clause-carried g c = rw c.in-Trial.is (c.trial.ensures.carried (g.F.Files.state c.args.files.now))
 
-pub returns-in-Verify-clause-carried : goal.returns-in-Verify-clause-carried
-returns-in-Verify-clause-carried g c = rw c.in-Verify.is (carried_name verify_report _ _ _ _ c.verify.result c.as_str-in-Verify.ensures c.verify.ensures)
+pub returns-in-Trial-clause-counted : goal.returns-in-Trial-clause-counted
+returns-in-Trial-clause-counted g c = rw c.in-Trial.is (c.trial.ensures.counted (contents_told (g.F.Files.state c.args.files.now).told))
 
 pub returns-in-Alerts-clause-carried : goal.returns-in-Alerts-clause-carried
 returns-in-Alerts-clause-carried g c =
-    rw c.in-Alerts.is (alerts_at c.unwrap_or-moment-in-Alerts.result _ _ _ _ _ c.alerts.result c.unwrap_or-moment-in-Alerts.ensures c.alerts.ensures)
+    rw c.in-Alerts.is (alerts_at c.unwrap_or-moment-in-Alerts.result _ c.in-Alerts.query _ _ _ c.alerts.result c.unwrap_or-moment-in-Alerts.ensures c.alerts.ensures.carried)
+
+pub returns-in-Alerts-clause-counted : goal.returns-in-Alerts-clause-counted
+returns-in-Alerts-clause-counted g c =
+    rw c.in-Alerts.is (counted_same _ _ _ _ _ c.alerts.result (ap (λ moment. alerts_work moment c.in-Alerts.names) c.unwrap_or-moment-in-Alerts.ensures) c.alerts.ensures.counted)

@@ -5,17 +5,20 @@ use Rattle.rt_outside.specs.Store.{contents_told}
 use Rattle.feed_list.specs.Lists.{list_in}
 use Rattle.rule_history.specs.Answered.{tables_of}
 use Rattle.run_base.specs.Carried.{CarriesOut, exactly}
+use Rattle.run_base.specs.Counted.{IsCounted, counters}
+use Rattle.run_base.proofs.Counted.{counted_none, counted_within, input_ends}
+use Rattle.run_rows.specs.Counted.{outcome_work}
 use Rattle.run_rows.specs.declared.telling.Telling.TheVariants.{Changes}
-use Rattle.run_follow.specs.Follow.{IsFollowed, list_report, followed}
+use Rattle.run_follow.specs.Follow.{IsFollowed, list_report, list_work, followed}
 use Rattle.run_rows.specs.Rows.{paths_of, all_rows}
 use Rattle.run_base.specs.Outside.{outside}
 use Rattle.run_base.proofs.Chosen.{carried_within}
-use Rattle.run_follow.proofs.Listed.{carried_list, rows_listed}
+use Rattle.run_follow.proofs.Listed.{carried_list, rows_listed, work_listed}
 use Rattle.run_base.proofs.Chosen.{each, rose_later}
 use Rattle.run_follow.proofs.command.follow_list.Goals as goal
 
-pub returns-in-Ok : goal.returns-in-Ok
-returns-in-Ok g c =
+pub returns-in-Ok-clause-carried : goal.returns-in-Ok-clause-carried
+returns-in-Ok-clause-carried g c =
     let list = c.args.list.now in
     let t = tables_of c.args.timetable in
     let told = contents_told (g.F.Files.state c.args.files.now).told in
@@ -26,12 +29,26 @@ returns-in-Ok g c =
     (rose_later _ _ _ c.read_list.ensures.later) c.read_list.ensures.contents (rows_listed told t list c.in-Ok.rows c.in-Ok.ensures.ok)
     (subst (λ rows. CarriesOut (exactly (λ held. followed (all_rows Changes t held rows))) (Contains (paths_of rows))
     (outside (g.F.Files.state c.read_list.new.files) (g.S.Sink.state c.args.out.now) (g.E.Sink.state c.args.err.now))
-    (outside (g.F.Files.state c.follow_listed.new.files) (g.S.Sink.state c.follow_listed.new.out) (g.E.Sink.state c.follow_listed.new.err)) c.follow_listed.result) c.as_slice.ensures c.follow_listed.ensures)
+    (outside (g.F.Files.state c.follow_listed.new.files) (g.S.Sink.state c.follow_listed.new.out) (g.E.Sink.state c.follow_listed.new.err)) c.follow_listed.result) c.as_slice.ensures c.follow_listed.ensures.carried)
 
-pub returns-in-Err : goal.returns-in-Err
-returns-in-Err g c =
+pub returns-in-Err-clause-carried : goal.returns-in-Err-clause-carried
+returns-in-Err-clause-carried g c =
     let list = c.args.list.now in
     let told = contents_told (g.F.Files.state c.args.files.now).told in
     carried_list (tables_of c.args.timetable) _ _ _ _ _ c.say_input_fault.result list (IsFollowed told None list) c.in-Err.fault c.told_as.result (inl refl)
     (λ read memory. each told _ (λ held. list_in (get held list) ≡ Err c.in-Err.fault) (λ held f. f read memory) c.in-Err.ensures.err)
     (λ e. c.in-Err.ensures.cause (search rules)) c.in-Err.ensures.asked c.told_as.ensures c.say_input_fault.ensures
+
+pub returns-in-Ok-clause-counted : goal.returns-in-Ok-clause-counted
+returns-in-Ok-clause-counted g c =
+    let list = c.args.list.now in
+    let t = tables_of c.args.timetable in
+    let mid = contents_told (g.F.Files.state c.read_list.new.files).told in
+    let told = contents_told (g.F.Files.state c.args.files.now).told in
+    counted_within (λ held. outcome_work t (all_rows Changes t held c.in-Ok.rows)) mid _ _ c.follow_listed.result (list_work list t) told c.read_list.ensures.contents (work_listed told t list c.in-Ok.rows c.in-Ok.ensures.ok)
+    (subst (λ rows. IsCounted (λ held. outcome_work t (all_rows Changes t held rows)) mid (counters c.args.decodes.now c.args.tests.now) (counters c.follow_listed.new.decodes c.follow_listed.new.tests) c.follow_listed.result)
+    c.as_slice.ensures c.follow_listed.ensures.counted)
+
+pub returns-in-Err-clause-counted : goal.returns-in-Err-clause-counted
+returns-in-Err-clause-counted g c =
+    counted_none (list_work c.args.list.now (tables_of c.args.timetable)) _ _ c.say_input_fault.result (input_ends c.told_as.result _ _ c.say_input_fault.result c.say_input_fault.ensures)

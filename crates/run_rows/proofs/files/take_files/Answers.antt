@@ -7,6 +7,8 @@ use Rattle.feed_list.specs.Lists.{IsWithinLimits}
 use Rattle.rule_history.specs.Answered.{tables_of}
 use Rattle.run_base.proofs.Carried.{carried_memory}
 use Rattle.run_base.proofs.Chosen.{all}
+use Rattle.run_base.proofs.Counted.{nothing_more, says_ends}
+use Rattle.run_base.specs.declared.status.Status.TheVariants as answer
 use Rattle.run_rows.specs.Files.{files_ended}
 use Rattle.run_rows.proofs.Ended.{files_cut_off}
 use Rattle.run_rows.proofs.FileRows.{within_limits}
@@ -26,3 +28,9 @@ pub returns-in-Err-clause-cut_off : goal.returns-in-Err-clause-cut_off
 returns-in-Err-clause-cut_off g c = λ ending.
     carried_memory (files_ended ending (tables_of c.args.table) c.args.moment c.args.names.now) (Contains c.args.names.now) _ _ c.say_memory.result
     (all (contents_told (g.F.Files.state c.args.files.now).told) _ (λ held. AppendsPrefix-nothing _ _)) c.say_memory.ensures
+
+pub returns-in-Err-clause-most : goal.returns-in-Err-clause-most
+returns-in-Err-clause-most g c = all (contents_told (g.F.Files.state c.args.files.now).told) _ (λ held. nothing_more _ _)
+
+pub returns-in-Err-clause-undone : goal.returns-in-Err-clause-undone
+returns-in-Err-clause-undone g c = says_ends _ answer.Memory _ _ c.say_memory.result (λ done. done) c.say_memory.ensures

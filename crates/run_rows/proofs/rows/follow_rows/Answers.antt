@@ -4,8 +4,13 @@ use Rattle.rt_outside.specs.Sink.{AppendsPrefix}
 use Rattle.rt_outside.specs.Store.{contents_told}
 use Rattle.rt_outside.proofs.Appends.{append_known-nil}
 use Rattle.rule_history.specs.Answered.{tables_of}
-use Rattle.run_rows.specs.Followed.{IsRowEnd}
-use Rattle.run_base.proofs.Chosen.{all, not_read, rose_later}
+use Rattle.std.specs.FinMap.{get}
+use Rattle.run_base.specs.Counted.{RoseAtMost, RoseBy, counters}
+use Rattle.run_base.specs.Found.{bytes_in}
+use Rattle.run_base.proofs.Chosen.{all, each, not_read, rose_later}
+use Rattle.run_base.proofs.Counted.{at_most, by_none}
+use Rattle.run_rows.specs.Followed.{IsRowEnd, RowCounts}
+use Rattle.run_rows.proofs.Counted.{counted_all_rows, counted_next, most_next}
 use Rattle.run_rows.proofs.RowByRow.{done_none, done_all, stopped, cut, done_next, within_next, got}
 use Rattle.run_rows.proofs.rows.follow_rows.Goals as goal
 
@@ -16,6 +21,7 @@ loop-index-init g c =
       within = record { history = []; stands_for = c.new-engine.ensures; within = omega arith };
       done = done_none (contents_told (g.F.Files.state c.args.files.now).told) c.args.telling (tables_of c.args.table) (g.S.Sink.state c.args.out.now).written c.args.rows.now c.new-engine.result c.new-engine.ensures
           (sym (append_known-nil (g.S.Sink.state c.args.out.now).written));
+      counted = all (contents_told (g.F.Files.state c.args.files.now).told) _ (λ held. by_none (counters c.args.decodes.now c.args.tests.now));
       read_later = omega arith;
       write_later = omega arith;
     }
@@ -32,6 +38,10 @@ loop-index-preserved g c =
       within = within_next told c.args.telling t c.loop-index.index c.loop-index.index row c.loop-index.engine end c.loop-index.invariant.within is;
       done = done_next told c.args.telling t (g.S.Sink.state c.args.out.now).written (g.S.Sink.state c.loop-index.out).written (g.S.Sink.state c.put_all.new.sink).written c.args.rows.now c.loop-index.engine c.loop-index.error c.either-error.result
           c.loop-index.index row end c.loop-index-test.true c.index-rows-index.is c.loop-index.invariant.done is c.either-error.ensures (c.in-Ok-put_all.ensures.ok ∙ ap (append_known (g.S.Sink.state c.loop-index.out).written) c.deref.ensures.value);
+      counted = counted_next c.args.telling t c.args.rows.now (counters c.args.decodes.now c.args.tests.now) (g.S.Sink.state c.args.out.now).written (g.S.Sink.state c.loop-index.out).written c.loop-index.engine c.loop-index.error
+          c.loop-index.index row c.loop-index-test.true c.index-rows-index.is (counters c.loop-index.decodes c.loop-index.tests) (counters c.take_row.new.decodes c.take_row.new.tests) told c.loop-index.invariant.done
+          c.loop-index.invariant.counted (subst (λ told. IfSome told (λ held. RowCounts RoseBy c.loop-index.engine row (bytes_in (get held row.path)) (counters c.loop-index.decodes c.loop-index.tests) (counters c.take_row.new.decodes c.take_row.new.tests)))
+          c.loop-index.invariant.told c.in-Ok.ensures.counted);
       read_later = omega (arith, c.loop-index.invariant.read_later, c.take_row.ensures.later);
       write_later = omega (arith, c.loop-index.invariant.write_later, c.in-Ok-put_all.ensures.cause.later);
     }
@@ -41,6 +51,14 @@ pub returns-in-Err-clause-text : goal.returns-in-Err-clause-text
 returns-in-Err-clause-text g c =
     stopped (contents_told (g.F.Files.state c.args.files.now).told) c.args.telling (tables_of c.args.table) (g.S.Sink.state c.args.out.now).written (g.S.Sink.state c.loop-index.out).written c.args.rows.now
     c.loop-index.engine c.loop-index.error c.loop-index.index c.loop-index.invariant.done
+
+pub returns-in-Err-clause-most : goal.returns-in-Err-clause-most
+returns-in-Err-clause-most g c =
+    most_next c.args.telling (tables_of c.args.table) c.args.rows.now (counters c.args.decodes.now c.args.tests.now) (g.S.Sink.state c.args.out.now).written (g.S.Sink.state c.loop-index.out).written c.loop-index.engine c.loop-index.error
+    c.loop-index.index c.index-rows-index.result c.loop-index-test.true c.index-rows-index.is (counters c.loop-index.decodes c.loop-index.tests) (counters c.take_row.new.decodes c.take_row.new.tests)
+    (contents_told (g.F.Files.state c.args.files.now).told) c.loop-index.invariant.done c.loop-index.invariant.counted
+    (subst (λ told. IfSome told (λ held. RowCounts RoseAtMost c.loop-index.engine c.index-rows-index.result (bytes_in (get held c.index-rows-index.result.path)) (counters c.loop-index.decodes c.loop-index.tests) (counters c.take_row.new.decodes c.take_row.new.tests)))
+    c.loop-index.invariant.told c.take_row.ensures.most)
 
 pub returns-in-Err-clause-faults : goal.returns-in-Err-clause-faults
 returns-in-Err-clause-faults g c = record {
@@ -65,6 +83,17 @@ returns-in-Err-put_all-clause-text g c =
 pub returns-in-Err-put_all-clause-whole : goal.returns-in-Err-put_all-clause-whole
 returns-in-Err-put_all-clause-whole g c = all (contents_told (g.F.Files.state c.args.files.now).told) _ (λ held. tt)
 
+pub returns-in-Err-put_all-clause-counted : goal.returns-in-Err-put_all-clause-counted
+returns-in-Err-put_all-clause-counted g c = all (contents_told (g.F.Files.state c.args.files.now).told) _ (λ held. tt)
+
+pub returns-in-Err-put_all-clause-most : goal.returns-in-Err-put_all-clause-most
+returns-in-Err-put_all-clause-most g c =
+    most_next c.args.telling (tables_of c.args.table) c.args.rows.now (counters c.args.decodes.now c.args.tests.now) (g.S.Sink.state c.args.out.now).written (g.S.Sink.state c.loop-index.out).written c.loop-index.engine c.loop-index.error
+    c.loop-index.index c.index-rows-index.result c.loop-index-test.true c.index-rows-index.is (counters c.loop-index.decodes c.loop-index.tests) (counters c.take_row.new.decodes c.take_row.new.tests)
+    (contents_told (g.F.Files.state c.args.files.now).told) c.loop-index.invariant.done c.loop-index.invariant.counted
+    (subst (λ told. IfSome told (λ held. RowCounts RoseAtMost c.loop-index.engine c.index-rows-index.result (bytes_in (get held c.index-rows-index.result.path)) (counters c.loop-index.decodes c.loop-index.tests) (counters c.take_row.new.decodes c.take_row.new.tests)))
+    c.loop-index.invariant.told c.take_row.ensures.most)
+
 pub returns-in-Err-put_all-clause-faults : goal.returns-in-Err-put_all-clause-faults
 returns-in-Err-put_all-clause-faults g c = record {
   row = c.index-rows-index.result;
@@ -84,3 +113,12 @@ pub returns-clause-whole : goal.returns-clause-whole
 returns-clause-whole g c =
     done_all (contents_told (g.F.Files.state c.args.files.now).told) c.args.telling (tables_of c.args.table) (g.S.Sink.state c.args.out.now).written (g.S.Sink.state c.loop-index.out).written c.args.rows.now
     c.loop-index.engine c.loop-index.error c.loop-index.index (omega (arith, c.loop-index-test.false)) c.loop-index.invariant.done
+
+pub returns-clause-counted : goal.returns-clause-counted
+returns-clause-counted g c =
+    counted_all_rows c.args.telling (tables_of c.args.table) c.args.rows.now (counters c.args.decodes.now c.args.tests.now) (contents_told (g.F.Files.state c.args.files.now).told) (counters c.loop-index.decodes c.loop-index.tests)
+    c.loop-index.index (omega (arith, c.loop-index-test.false)) c.loop-index.invariant.counted
+
+pub returns-clause-most : goal.returns-clause-most
+returns-clause-most g c =
+    each (contents_told (g.F.Files.state c.args.files.now).told) _ _ (λ held rose. at_most _ _ _ rose) (returns-clause-counted g c)

@@ -28,3 +28,13 @@ returns-clause-text g c =
     AppendsPrefix-whole (g.S.Sink.state c.args.out.now).written new (c.args.first.items ++ flat_map finding_text found)
     (sends_all (g.S.Sink.state c.args.out.now).written mid (record { text = c.args.first; error = false }) c.send_snapshot.new.lines found c.in_ok-send_snapshot.ensures.sent new
     (c.in_ok-put_all.ensures.ok ∙ ap (append_known mid) c.deref.ensures.value))
+
+pub returns-clause-whole : goal.returns-clause-whole
+returns-clause-whole g c =
+    let found : List Found = snapshot_found (tables_of c.args.timetable.now) 0 c.args.moment (header_of c.args.kept.now) (entities_of c.args.kept.now) in
+    let mid = (g.S.Sink.state c.send_snapshot.new.out).written in
+    let new = (g.S.Sink.state c.put_all.new.sink).written in (
+      c.in_ok-send_snapshot.ensures.sent.error,
+      sends_all (g.S.Sink.state c.args.out.now).written mid (record { text = c.args.first; error = false }) c.send_snapshot.new.lines found c.in_ok-send_snapshot.ensures.sent new
+          (c.in_ok-put_all.ensures.ok ∙ ap (append_known mid) c.deref.ensures.value),
+    )

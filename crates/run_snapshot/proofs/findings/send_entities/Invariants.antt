@@ -1,4 +1,4 @@
-use Rattle.std.proofs.Common.{◌≤◌}
+use Rattle.std.proofs.Common.{◌≡◌, ◌+◌, ◌*◌, ◌≤◌, length}
 use Rattle.feed_values.specs.Views.{feed_header_value}
 use Rattle.rule_history.specs.Answered.{tables_of}
 use Rattle.judging.specs.Judged.{first_heads, found_at_seats}
@@ -6,7 +6,8 @@ use Rattle.snapshot_keys.specs.Places.{AreWithin, placed}
 use Rattle.run_snapshot.proofs.Sent.{Left}
 use Rattle.run_snapshot.proofs.findings.send_entities.Given as goal
 
--- what was sent, the lines that are held back and those of the entities that are left are all
+-- what was sent, the lines that are held back and those of the entities that are left are all; so is what was decoded and tested with
+-- what the entities that are left ask for
 abbrev pub invariant-loop-key : goal.invariant-loop-key
 invariant-loop-key g l =
     let t = tables_of l.timetable in
@@ -16,5 +17,7 @@ invariant-loop-key g l =
       left : Left (g.S.Sink.state l.fn.out).written l.fn.lines (found_at_seats t rows heads (placed l.kept l.places.entries))
           (g.S.Sink.state l.out).written l.lines (found_at_seats t rows heads (placed l.kept l.key-iterator));
       within : AreWithin l.kept l.key-iterator;
+      decoded : l.decodes + length l.key-iterator ≡ l.fn.decodes + length l.places.entries;
+      tested : l.tests + 45 * length l.key-iterator ≡ l.fn.tests + 45 * length l.places.entries;
       later : (g.S.Sink.state l.fn.out).faults ≤ (g.S.Sink.state l.out).faults;
     }

@@ -1,10 +1,11 @@
-use Rattle.std.proofs.Common.{◌≡◌, ◌∙◌, List, ap, sym, subst}
+use Rattle.std.proofs.Common.{◌≡◌, ◌∙◌, List, ap, arith, sym, subst}
 use Rattle.feed_values.specs.Snapshot.{entity_of, entity_payloads}
 use Rattle.feed_values.specs.Views.{entity_value, feed_header_value}
 use Rattle.rule_history.specs.Answered.{Heads, tables_of}
 use Rattle.rule_table.specs.Found.{Found}
 use Rattle.rule_table.specs.Marked.{marked}
 use Rattle.judging.specs.Judged.{first_answer, first_heads}
+use Rattle.judging.specs.Ruled.{entity_count}
 use Rattle.judging.specs.Whole.{entity_found}
 use Rattle.snapshot_keys.specs.Places.{entity_at}
 use Rattle.snapshot_keys.proofs.OneMore.{read_payload}
@@ -43,7 +44,7 @@ returns-clause-sent g c =
     let answer = first_answer t rows (feed_header_value c.args.header.now) c.args.moment c.args.key.now (entity_value c.in_ok-entity.entity) in
     let said : entity_value c.in_ok-entity.entity ≡ entity_at c.args.kept.now c.args.place =
     c.in_ok-entity.ensures.value ∙ ap entity_of (sym (read_payload (entity_payloads c.args.kept.now) c.args.place c.entity.result.now c.entity.ensures.payload)) in
-    let same = ap (marked answer c.args.key.now) c.deref.ensures.value ∙ c.in_ok-marks.ensures ∙ ap (entity_found t rows heads c.args.key.now) said in
+    let same = ap (marked answer c.args.key.now) c.deref.ensures.value ∙ c.in_ok-marks.ensures.marked ∙ ap (entity_found t rows heads c.args.key.now) said in
     more_ok c.send_marked.result (subst (Sends before now c.args.lines.now c.send_marked.new.lines) same) c.send_marked.ensures.sent
 
 pub returns-clause-part : goal.returns-clause-part
@@ -56,5 +57,18 @@ returns-clause-part g c =
     let answer = first_answer t rows (feed_header_value c.args.header.now) c.args.moment c.args.key.now (entity_value c.in_ok-entity.entity) in
     let said : entity_value c.in_ok-entity.entity ≡ entity_at c.args.kept.now c.args.place =
     c.in_ok-entity.ensures.value ∙ ap entity_of (sym (read_payload (entity_payloads c.args.kept.now) c.args.place c.entity.result.now c.entity.ensures.payload)) in
-    let same = ap (marked answer c.args.key.now) c.deref.ensures.value ∙ c.in_ok-marks.ensures ∙ ap (entity_found t rows heads c.args.key.now) said in
+    let same = ap (marked answer c.args.key.now) c.deref.ensures.value ∙ c.in_ok-marks.ensures.marked ∙ ap (entity_found t rows heads c.args.key.now) said in
     more_err c.send_marked.result (subst (SendsPart before now c.args.lines.now) same) c.send_marked.ensures.part
+
+-- ---- an entity is decoded, and its rules are tested
+pub returns-in_err-entity-clause-most : goal.returns-in_err-entity-clause-most
+returns-in_err-entity-clause-most g c = record { decodes = omega (arith, c.decode_entity.ensures.step); tests = omega arith }
+
+pub returns-in_err-marks-clause-most : goal.returns-in_err-marks-clause-most
+returns-in_err-marks-clause-most g c = record { decodes = omega (arith, c.decode_entity.ensures.step); tests = omega (arith, entity_count, c.in_err-marks.ensures.most) }
+
+pub returns-clause-counted : goal.returns-clause-counted
+returns-clause-counted g c = more_ok c.send_marked.result (λ sent. record { decodes = omega (arith, c.decode_entity.ensures.step); tests = omega (arith, entity_count, c.in_ok-marks.ensures.ticked) }) c.send_marked.ensures.sent
+
+pub returns-clause-most : goal.returns-clause-most
+returns-clause-most g c = record { decodes = omega (arith, c.decode_entity.ensures.step); tests = omega (arith, entity_count, c.in_ok-marks.ensures.ticked) }

@@ -1,4 +1,4 @@
-use Rattle.std.proofs.Common.{◌≡◌, ◌∙◌, ap, sym, subst}
+use Rattle.std.proofs.Common.{◌≡◌, ◌∙◌, ap, arith, sym, subst}
 use Rattle.feed_values.specs.Snapshot.{entities_of, header_of}
 use Rattle.feed_values.specs.Views.{feed_header_value}
 use Rattle.rule_history.specs.Answered.{Heads, tables_of}
@@ -9,6 +9,7 @@ use Rattle.judging.proofs.OneSnapshot.{seats_rise}
 use Rattle.rt_report.specs.FindingLines.{AddsLines}
 use Rattle.run_snapshot.specs.Sending.{Sends, SendsPart}
 use Rattle.run_snapshot.proofs.Sent.{sends_behind, part_behind, more_ok, more_err, none_sent}
+use Rattle.run_snapshot.proofs.Reports.{as_many_places}
 use Rattle.run_snapshot.proofs.findings.send_snapshot.Goals as goal
 
 pub rows_of-requires-clause-rising : goal.rows_of-requires-clause-rising
@@ -25,7 +26,7 @@ returns-clause-sent g c =
     let new = (g.S.Sink.state c.send_entities.new.out).written in
     more_ok c.send_entities.result
     (λ sent. sends_behind before new c.args.lines.now c.judge_header.new.lines (header_found t (seat_rows es) heads 0) (found_at_seats t (seat_rows es) heads es)
-    (subst (λ h. AddsLines c.args.lines.now c.judge_header.new.lines (header_found t (seat_rows es) (first_heads h c.args.moment) 0)) said (c.in_ok-judge_header.ensures t (seat_rows es))) c.send_entities.new.lines
+    (subst (λ h. AddsLines c.args.lines.now c.judge_header.new.lines (header_found t (seat_rows es) (first_heads h c.args.moment) 0)) said (c.in_ok-judge_header.ensures.added t (seat_rows es))) c.send_entities.new.lines
     (subst (Sends before new c.judge_header.new.lines c.send_entities.new.lines)
     (c.in_ok-rows.ensures.found t (first_heads (feed_header_value c.in_ok-header.header) c.args.moment)
     ∙ ap (λ s. found_at_seats t (seat_rows s) (first_heads (feed_header_value c.in_ok-header.header) c.args.moment) s) c.in_ok-places.ensures.seats_are
@@ -42,7 +43,7 @@ returns-clause-part g c =
     let new = (g.S.Sink.state c.send_entities.new.out).written in
     more_err c.send_entities.result
     (λ part. part_behind before new c.args.lines.now c.judge_header.new.lines (header_found t (seat_rows es) heads 0) (found_at_seats t (seat_rows es) heads es)
-    (subst (λ h. AddsLines c.args.lines.now c.judge_header.new.lines (header_found t (seat_rows es) (first_heads h c.args.moment) 0)) said (c.in_ok-judge_header.ensures t (seat_rows es)))
+    (subst (λ h. AddsLines c.args.lines.now c.judge_header.new.lines (header_found t (seat_rows es) (first_heads h c.args.moment) 0)) said (c.in_ok-judge_header.ensures.added t (seat_rows es)))
     (subst (SendsPart before new c.judge_header.new.lines)
     (c.in_ok-rows.ensures.found t (first_heads (feed_header_value c.in_ok-header.header) c.args.moment)
     ∙ ap (λ s. found_at_seats t (seat_rows s) (first_heads (feed_header_value c.in_ok-header.header) c.args.moment) s) c.in_ok-places.ensures.seats_are
@@ -55,7 +56,31 @@ returns-in_err-places-clause-part g c =
     none_sent c.from_residual-in_err-places.result (g.S.Sink.state c.args.out.now).written c.args.lines.now
     (snapshot_found (tables_of c.args.timetable.now) 0 c.args.moment (header_of c.args.kept.now) (entities_of c.args.kept.now))
 
+pub returns-in_err-rows-clause-part : goal.returns-in_err-rows-clause-part
+returns-in_err-rows-clause-part g c =
+    none_sent c.from_residual-in_err-rows.result (g.S.Sink.state c.args.out.now).written c.args.lines.now
+    (snapshot_found (tables_of c.args.timetable.now) 0 c.args.moment (header_of c.args.kept.now) (entities_of c.args.kept.now))
+
 pub returns-in_err-judge_header-clause-part : goal.returns-in_err-judge_header-clause-part
 returns-in_err-judge_header-clause-part g c =
     none_sent c.from_residual-in_err-judge_header.result (g.S.Sink.state c.args.out.now).written c.args.lines.now
     (snapshot_found (tables_of c.args.timetable.now) 0 c.args.moment (header_of c.args.kept.now) (entities_of c.args.kept.now))
+
+-- ---- as many entities are decoded and tested as the snapshot has
+pub returns-in_err-judge_header-clause-most : goal.returns-in_err-judge_header-clause-most
+returns-in_err-judge_header-clause-most g c = record { decodes = omega arith; tests = omega (arith, c.in_err-judge_header.ensures.most) }
+
+pub returns-clause-counted : goal.returns-clause-counted
+returns-clause-counted g c =
+    let many = as_many_places c.args.kept.now c.in_ok-places.places.entries c.in_ok-places.ensures.seats_are in
+    more_ok c.send_entities.result
+    (λ by. record { decodes = omega (arith, many, by.decodes); tests = omega (arith, many, c.in_ok-judge_header.ensures.ticked, by.tests) })
+    c.send_entities.ensures.counted
+
+pub returns-clause-most : goal.returns-clause-most
+returns-clause-most g c =
+    let many = as_many_places c.args.kept.now c.in_ok-places.places.entries c.in_ok-places.ensures.seats_are in
+    record {
+      decodes = omega (arith, many, c.send_entities.ensures.most.decodes);
+      tests = omega (arith, many, c.in_ok-judge_header.ensures.ticked, c.send_entities.ensures.most.tests);
+    }
