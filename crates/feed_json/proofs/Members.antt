@@ -1,12 +1,13 @@
 -- Members of an object that were put one by one.
-use Rattle.std.proofs.Common.{◌≡◌, ℕ, List, Option, Some, None, Bool, true, false, ◌||◌, codes, refl, sym, ◌∙◌, Ordering, Less, Equal, Greater, nat_cmp, is_eq, option_map, map}
+use Rattle.std.proofs.Common.{◌≡◌, ◌<◌, ℕ, List, [], ◌∷◌, length, Option, Some, None, Bool, true, false, ◌||◌, codes, refl, sym, ◌∙◌, Ordering, Less, Equal, Greater, nat_cmp, is_eq, option_map, map, arith}
 use Rattle.std.proofs.lemmas.Map.Text.{is_eq-slice_cmp}
 use Rattle.std.proofs.lemmas.Slice.Eq.{bytes_eq-Decides}
 use Rattle.std.specs.Cmp.Lexicographic.{slice_cmp}
 use Rattle.std.specs.Ordering.{match_ordering}
 use Rattle.std.specs.Str.{bytes_eq}
-use Rattle.serde_json.specs.Data.{Data, Members, no_members, member, put}
+use Rattle.serde_json.specs.Data.{Data, array, Members, no_members, member, put}
 use Rattle.serde_json.specs.Find.{get_member}
+use Rattle.serde_json.specs.View.{items_of}
 use Rattle.serde_json.proofs.Views.{get_member-put}
 use Rattle.std.specs.FinMap.{nat_cmp-IsAntisymmetric, slice_cmp-IsAntisymmetric}
 use Rattle.feed_values.specs.Schema as schema
@@ -116,3 +117,13 @@ known_slots known (schema.message n name presence m rest) v ms all h =
     known_slots known rest v.1 _ (λ k e. all k (right_true (bytes_eq k (codes name)) (is_key rest k) e)) (known_with known (codes name) _ ms (all (codes name) (left_true _ (is_key rest (codes name)) (same_text (codes name)))) h)
 known_slots known (schema.repeated n name m rest) v ms all h =
     known_slots known rest v.1 _ (λ k e. all k (right_true (bytes_eq k (codes name)) (is_key rest k) e)) (known_with known (codes name) _ ms (all (codes name) (left_true _ (is_key rest (codes name)) (same_text (codes name)))) h)
+
+-- ---- an array, where it has items
+
+pub is_array : {A : Type 0} (write : A → Data) (xs : List A) → 0 < length xs → array_form (map write xs) ≡ Some (array (items_of (map write xs)))
+is_array write [] some = absurd (omega arith)
+is_array write (x ∷ xs) some = refl
+
+pub no_array : {A : Type 0} (write : A → Data) (xs : List A) → length xs ≡ 0 → array_form (map write xs) ≡ None
+no_array write [] none = refl
+no_array write (x ∷ xs) none = absurd (omega arith)

@@ -69,7 +69,7 @@ impl<M: Form> Form for Apart<M> {
 }
 
 /// Whether a key is one of these names.
-fn is_among(key: &str, names: &[&str]) -> bool
+pub fn is_among(key: &str, names: &[&str]) -> bool
     ensures { result ≡ list_any (λ name. bytes_eq key.now name.now) names.now }
 {
     names.iter().any(|name| key == *name)

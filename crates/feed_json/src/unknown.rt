@@ -20,6 +20,7 @@ ghost use Rattle.feed_json.specs.Reads.{Reads};
 ghost use Rattle.feed_json.specs.Unform.{bytes_of, group_of, is_whole, wire_of, value_of, field_of, item_of, unknown_of, is_item_key, first_unknown, needed_at, array_at, each_of, natural_of};
 
 use crate::json_fault::JsonFault;
+use crate::message::is_among;
 use crate::paths::{out_of_range, text_of, under, wrong_kind};
 use crate::reading::{natural_from, u32_from};
 use crate::writing::put_array;
@@ -180,14 +181,20 @@ fn value_at<M: UnknownItems>(
     }
 }
 
+/// Whether a key is one of the three that an item has.
+fn is_item_key(key: &str) -> bool
+    ensures { result ≡ is_item_key key.now }
+{
+    is_among(key, &["number", "wire", "value"])
+}
+
 /// The first key, in byte order, that an item hasn't.
 fn unknown_key(members: &Map<String, Value>) -> Option<&str>
     ensures { option_map (λ key. key.now) result ≡ first_unknown is_item_key (members_view members.now.entries) }
 {
     for (key, _) in members {
-        let name = key.as_str();
-        if !(name == "number" || name == "wire" || name == "value") {
-            return Some(name);
+        if !is_item_key(key.as_str()) {
+            return Some(key.as_str());
         }
     }
     None
@@ -288,10 +295,8 @@ fn wire_value(alloc: Global, value: &UnknownValue) -> Result<Value, AllocError>
     ensures { IfOk result (λ tree. view tree ≡ wire_form (unknown_value value.now)) }
 {
     match value {
-        UnknownValue::Varint(number) => Ok(Value::from(*number)),
-        UnknownValue::Fixed64(number) => Ok(Value::from(*number)),
-        UnknownValue::Len(payload) => hex_value(alloc, payload.as_slice()),
-        UnknownValue::Group(group) => hex_value(alloc, group.as_slice()),
+        UnknownValue::Varint(number) | UnknownValue::Fixed64(number) => Ok(Value::from(*number)),
+        UnknownValue::Len(bytes) | UnknownValue::Group(bytes) => hex_value(alloc, bytes.as_slice()),
         UnknownValue::Fixed32(number) => Ok(Value::from(*number)),
     }
 }

@@ -15,6 +15,31 @@ use feed_values::{Items, Text};
 use serde_json::{Map, Value};
 use std::alloc::{AllocError, Global};
 
+/// A number that isn't negative.
+fn put_natural(
+    alloc: Global,
+    members: &mut Map<String, Value>,
+    key: &str,
+    number: u64,
+) -> Result<(), AllocError>
+    ensures { OnOk result (members_view members.new.entries
+        ≡ with_member key.now (Some (scalar_form schema.U64 (pos number))) (members_view members.old.entries)) }
+{
+    serde_json::put(members, alloc, key, Value::from(number))
+}
+
+fn put_integer(
+    alloc: Global,
+    members: &mut Map<String, Value>,
+    key: &str,
+    number: i64,
+) -> Result<(), AllocError>
+    ensures { OnOk result (members_view members.new.entries
+        ≡ with_member key.now (Some (scalar_form schema.I64 number)) (members_view members.old.entries)) }
+{
+    serde_json::put(members, alloc, key, Value::from(number))
+}
+
 pub fn put_bool(
     alloc: Global,
     members: &mut Map<String, Value>,
@@ -41,7 +66,7 @@ pub fn put_u32(
         ≡ with_member key.now (option_map (scalar_form schema.U32) (natural held)) (members_view members.old.entries)) }
 {
     match held {
-        Some(number) => serde_json::put(members, alloc, key, Value::from(number)),
+        Some(number) => put_natural(alloc, members, key, u64::from(number)),
         None => Ok(()),
     }
 }
@@ -56,7 +81,7 @@ pub fn put_needed_u32(
     ensures { OnOk result (members_view members.new.entries
         ≡ with_member key.now (Some (scalar_form schema.U32 (pos number))) (members_view members.old.entries)) }
 {
-    serde_json::put(members, alloc, key, Value::from(number))
+    put_natural(alloc, members, key, u64::from(number))
 }
 
 pub fn put_u64(
@@ -69,7 +94,7 @@ pub fn put_u64(
         ≡ with_member key.now (option_map (scalar_form schema.U64) (natural held)) (members_view members.old.entries)) }
 {
     match held {
-        Some(number) => serde_json::put(members, alloc, key, Value::from(number)),
+        Some(number) => put_natural(alloc, members, key, number),
         None => Ok(()),
     }
 }
@@ -84,7 +109,7 @@ pub fn put_i32(
         ≡ with_member key.now (option_map (scalar_form schema.I32) held) (members_view members.old.entries)) }
 {
     match held {
-        Some(number) => serde_json::put(members, alloc, key, Value::from(number)),
+        Some(number) => put_integer(alloc, members, key, i64::from(number)),
         None => Ok(()),
     }
 }
@@ -99,7 +124,7 @@ pub fn put_i64(
         ≡ with_member key.now (option_map (scalar_form schema.I64) held) (members_view members.old.entries)) }
 {
     match held {
-        Some(number) => serde_json::put(members, alloc, key, Value::from(number)),
+        Some(number) => put_integer(alloc, members, key, number),
         None => Ok(()),
     }
 }
