@@ -50,7 +50,8 @@ def main():
     if os.path.isdir(aside):
         os.rename(aside, kept)
     for seconds, name in sorted(rows, reverse=True)[:count]:
-        print(f"{seconds:8.1f} {re.sub(r'(\.decls)?\.oantt$', '', name)}")
+        module = re.sub(r"(\.decls)?\.oantt$", "", name)
+        print(f"{seconds:8.1f} {module}")
     print(", ".join(f"{kind} {seconds:.0f}" for kind, seconds in sums.most_common()))
     spent = after.ru_utime + after.ru_stime - before.ru_utime - before.ru_stime
     print(f"{spent:.0f} processor seconds; {ran.stdout.strip().splitlines()[-1][:80]}")

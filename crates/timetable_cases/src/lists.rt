@@ -2,22 +2,37 @@
 
 use crate::held::Held;
 use cases::{say, word};
-use feed_list::{ListRow, read_list};
+use feed_list::{ListFault, ListRow, read_list};
+use feed_values::Items;
+use rt_outside::Files;
 use std::alloc::{AllocError, Global};
+
+fn say_row(alloc: Global, row: &ListRow, out: &mut Vec<u8>) -> Result<(), AllocError> {
+    let path = row.path.as_str();
+    let line = format!(in alloc; "{} {} {path}", row.feed, row.moment)?;
+    say(out, line.as_str())
+}
 
 fn say_rows(alloc: Global, rows: &[ListRow], out: &mut Vec<u8>) -> Result<(), AllocError> {
     say(out, format!(in alloc; "{} rows", rows.len())?.as_str())?;
     for row in rows {
-        let path = row.path.as_str();
-        let line = format!(in alloc; "{} {} {path}", row.feed, row.moment)?;
-        say(out, line.as_str())?;
+        say_row(alloc, row, out)?;
     }
     Ok(())
 }
 
+// The rows of a list in files that are given up then.
+fn rows<F: Files + Drop>(
+    alloc: Global,
+    mut files: F,
+    name: &str,
+) -> Result<Items<ListRow>, ListFault> {
+    read_list(alloc, &mut files, name)
+}
+
 // The rows of a list, or its first fault.
 fn say_list(alloc: Global, held: &Held, name: &str, out: &mut Vec<u8>) -> Result<(), AllocError> {
-    match read_list(alloc, &mut held.files()?, name) {
+    match rows(alloc, held.files()?, name) {
         Ok(list) => say_rows(alloc, list.as_slice(), out),
         Err(fault) => say(out, format!(in alloc; "{fault:?}")?.as_str()),
     }
@@ -25,7 +40,7 @@ fn say_list(alloc: Global, held: &Held, name: &str, out: &mut Vec<u8>) -> Result
 
 // What is told of the first fault of a list.
 fn say_told(alloc: Global, held: &Held, name: &str, out: &mut Vec<u8>) -> Result<(), AllocError> {
-    match read_list(alloc, &mut held.files()?, name) {
+    match rows(alloc, held.files()?, name) {
         Ok(_) => say(out, "no fault"),
         Err(fault) => say(out, fault.text(alloc)?.as_str()),
     }

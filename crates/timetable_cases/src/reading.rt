@@ -8,7 +8,7 @@ use rt_outside::{Files, QuietFiles, ReadEnd, RealFiles, read_whole};
 use std::alloc::{AllocError, Global};
 
 // The file that is read by `read WAY NAME LIMIT`, or why it isn't.
-fn read<F: Files>(
+fn read_in<F: Files>(
     alloc: Global,
     files: &mut F,
     words: &[String],
@@ -20,6 +20,27 @@ fn read<F: Files>(
     }
 }
 
+// The same of files that nothing else is read from. They are of any type, so that a way out drops one value.
+fn read<F: Files + Drop>(
+    alloc: Global,
+    mut files: F,
+    words: &[String],
+    out: &mut Vec<u8>,
+) -> Result<(), AllocError> {
+    read_in(alloc, &mut files, words, out)
+}
+
+// The same file read once and again.
+fn read_again<F: Files + Drop>(
+    alloc: Global,
+    mut files: F,
+    words: &[String],
+    out: &mut Vec<u8>,
+) -> Result<(), AllocError> {
+    read_in(alloc, &mut files, words, out)?;
+    read_in(alloc, &mut files, words, out)
+}
+
 // The file, how often it is opened, and how often another.
 fn read_counted(
     alloc: Global,
@@ -28,21 +49,9 @@ fn read_counted(
     out: &mut Vec<u8>,
 ) -> Result<(), AllocError> {
     let mut counted = Counted::new(files, word(words, 2));
-    read(alloc, &mut counted, words, out)?;
+    read_in(alloc, &mut counted, words, out)?;
     let (opened, others) = counted.openings();
     say(out, format!(in alloc; "{opened} {others}")?.as_str())
-}
-
-// The same file read once and again.
-fn read_again(
-    alloc: Global,
-    held: &Held,
-    words: &[String],
-    out: &mut Vec<u8>,
-) -> Result<(), AllocError> {
-    let mut files = held.files()?;
-    read(alloc, &mut files, words, out)?;
-    read(alloc, &mut files, words, out)
 }
 
 fn answer_read(
@@ -53,11 +62,11 @@ fn answer_read(
 ) -> Result<(), AllocError> {
     let alloc = rt.alloc();
     match word(words, 1) {
-        "quiet" => read(alloc, &mut held.quiet_files()?, words, out),
-        "drip" => read(alloc, &mut Drip::new(held.quiet_files()?), words, out),
+        "quiet" => read(alloc, held.quiet_files()?, words, out),
+        "drip" => read(alloc, Drip::new(held.quiet_files()?), words, out),
         "counted" => read_counted(alloc, held.quiet_files()?, words, out),
-        "again" => read_again(alloc, held, words, out),
-        "real" => read(alloc, &mut RealFiles::new(rt), words, out),
+        "again" => read_again(alloc, held.files()?, words, out),
+        "real" => read(alloc, RealFiles::new(rt), words, out),
         _ => say(out, "no such way"),
     }
 }

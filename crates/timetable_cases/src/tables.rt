@@ -25,14 +25,14 @@ fn answer_of(
 }
 
 // Answers an ask of the timetable in a folder, or tells its first fault.
-fn answer_in<F: Files>(
+fn answer_in<F: Files + Drop>(
     alloc: Global,
-    files: &mut F,
+    mut files: F,
     folder: &str,
     words: &[String],
     out: &mut Vec<u8>,
 ) -> Result<(), AllocError> {
-    match Timetable::load(alloc, files, folder) {
+    match Timetable::load(alloc, &mut files, folder) {
         Ok(table) => answer_of(alloc, &table, words, out),
         Err(fault) => say_some(alloc, out, Some(fault)),
     }
@@ -56,13 +56,12 @@ pub fn answer(
 ) -> Result<bool, AllocError> {
     match word(words, 0) {
         "in" => {
-            let mut files = held.files()?;
-            answer_in(alloc, &mut files, word(words, 1), words_from(words, 2), out)?;
+            let files = held.files()?;
+            answer_in(alloc, files, word(words, 1), words_from(words, 2), out)?;
         }
         "lengthened" => {
-            let files = held.quiet_files()?;
-            let mut files = Lengthened::new(files, word(words, 1), size(words, 2));
-            answer_in(alloc, &mut files, word(words, 4), words_from(words, 5), out)?;
+            let files = Lengthened::new(held.quiet_files()?, word(words, 1), size(words, 2));
+            answer_in(alloc, files, word(words, 4), words_from(words, 5), out)?;
         }
         "absent" => {
             let table = Timetable::absent(alloc);
