@@ -8,6 +8,7 @@ and runs the commands that read it. A case is made of the seed and its number al
   addresses are there, so write faults and want of memory are wrong too, and so is a read fault of a file that Python reads;
 - lines that aren't JSON in the one form that they have, rows that aren't CSV, or a text on standard error that isn't the status's;
 - a status that isn't that of the lines: 1 exactly where a line is `refused` or a finding of an error;
+- alerts that change before the moment that is told for it, or files that `alerts` takes otherwise than `check`;
 - a snapshot that `show`, which reads it whole, refuses otherwise than `check`, which reads it in pieces; one that is accepted, and whose JSON is
   encoded to bytes that are refused or shown otherwise; a union without all entities of its feeds;
 - a finding of `check` that `verify` doesn't confirm, and a list of the same snapshot that `follow` judges otherwise.
@@ -365,6 +366,27 @@ def check_several(chance, held):
         raise Wrong("a union hasn't all entities")
 
 
+def ask_alerts(chance, held):
+    paths = [put(f"f{i}", changed(chance, held, "snapshot", (0, 0, 1, 3))) for i in range(chance.randint(1, 3))]
+    moment = chance.choice([int(NOW), 1700000000, 1750000000, *NUMBERS])
+    query = [chance.choice(["--agency", "--route", "--trip", "--stop"]), chance.choice(["A1", "R1", "T1", "S1", "1042", "é"]), *paths]
+
+    def asked(at):
+        lines = reported(["alerts", "--now", str(at), *query])[1]
+        taken = [line for line in lines if line["line"] in ("accepted", "refused")]
+        alerts, last = lines[len(taken) : -1], lines[-1]
+        if len(taken) != len(paths) or any(line["line"] != "alert" for line in alerts) or last["line"] != "alerts" or last["alerts"] != len(alerts):
+            raise Wrong(f"alerts of {query} doesn't tell the files, the alerts and their number")
+        return taken, alerts, last["next"]
+
+    taken, alerts, next = asked(moment)
+    checked = reported(["check", "--now", str(moment), *paths])[1]
+    if taken != [line for line in checked if line["line"] in ("accepted", "refused")]:
+        raise Wrong(f"alerts of {query} doesn't take the files as check does")
+    if next is not None and (next <= moment or asked(next - 1)[1:] != (alerts, next)):
+        raise Wrong(f"alerts of {query} change before {next}")
+
+
 def follow_list(chance, held):
     put("a", changed(chance, held, "snapshot"))
     put("b", changed(chance, held, "snapshot"))
@@ -415,13 +437,13 @@ def verify_report(chance, held):
 
 
 def random_words(chance, held):
-    known = [*COMMANDS, "--timetable", "--now", "--list", "--zone-rule", "--zone-file", "a", "none", "-", "--", "-x", "7", *WORDS]
+    known = [*COMMANDS, "--timetable", "--now", "--list", "--zone-rule", "--zone-file", "--route", "--stop", "a", "none", "-", "--", "-x", "7", *WORDS]
     words = [chance.choice(known) for _ in range(chance.randrange(8))]
     run([word for word in words if "\0" not in word])
 
 
-COMMANDS = ["check", "follow", "show", "encode", "predict", "merge", "verify", "trial"]
-KINDS = [check_snapshot] * 4 + [show_snapshot] * 3 + [encode_form, encode_form, check_several, follow_list, follow_list, read_timetable, read_timetable, predict_zone, verify_report, random_words]
+COMMANDS = ["check", "follow", "show", "encode", "predict", "merge", "verify", "alerts", "trial"]
+KINDS = [check_snapshot] * 4 + [show_snapshot] * 3 + [encode_form, encode_form, check_several, follow_list, follow_list, read_timetable, read_timetable, predict_zone, verify_report, ask_alerts, ask_alerts, random_words]
 
 
 def main():

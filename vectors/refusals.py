@@ -156,6 +156,7 @@ FILES = {
     "p3": header(1700000060),
     "pairs": table("0,1700000000,t", "1,1700000000,p1", "1,1700000030,p2", "1,1700000060,p3"),
     "cut_off": header()[:-1],
+    "alert": header() + payload(2, payload(1, b"z") + payload(5, payload(1, number(1, 1700000000) + number(2, 1700000100)) + payload(5, payload(2, b"R1")))),
     "unknown": header() + payload(2, payload(1, b"a") + number(15, 1) + bytes.fromhex("7B 08 01 7C")),
     "text": b"no JSON",
     "often": OFTEN,
@@ -189,6 +190,7 @@ RUNS = [
     ("a union", ["merge", "t", "p1"], 0, None),
     ("a refused union", ["merge", "t", "cut_off"], 1, 1),
     ("a report", ["verify", "report"], 0, None),
+    ("alerts in force", ["alerts", *NOW, "--route", "R1", "alert", "p1"], 0, 4),
 ]
 
 # What is run of odd things, its status, what it writes to its output where that is told, and what to its error stream.
