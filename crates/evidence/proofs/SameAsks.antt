@@ -94,6 +94,7 @@ ask_is (ask.HasTrip k a) (ask.HasTrip l b) h = row_is ask.HasTrip k l a b h
 ask_is (ask.HasVehicle k a) (ask.HasVehicle l b) h = row_is ask.HasVehicle k l a b h
 ask_is (ask.FirstId f a) (ask.FirstId g b) h = seat_is ask.FirstId f g a b h
 ask_is (ask.FirstOccurrence f a) (ask.FirstOccurrence g b) h = seat_is ask.FirstOccurrence f g a b h
+ask_is (ask.Peak f a) (ask.Peak g b) h = seat_is ask.Peak f g a b h
 ask_is _ _ h = never h
 
 -- and each is the same as itself
@@ -134,3 +135,4 @@ ask_same (ask.HasTrip k a) = and_from _ _ (kind_same k) (text_same a)
 ask_same (ask.HasVehicle k a) = and_from _ _ (kind_same k) (text_same a)
 ask_same (ask.FirstId f a) = and_from _ _ (number_same f) (text_same a)
 ask_same (ask.FirstOccurrence f a) = and_from _ _ (number_same f) (text_same a)
+ask_same (ask.Peak f a) = and_from _ _ (number_same f) (text_same a)

@@ -17,7 +17,7 @@ use Rattle.rule_table.specs.declared.place.Place.TheVariants as place
 use Rattle.rule_table.specs.declared.row.Cite.{Cite}
 use Rattle.rule_table.specs.declared.row.Cite.TheVariants as cite
 use Rattle.rule_table.specs.declared.rule.RuleId.{RuleId}
-use Rattle.rule_table.specs.declared.rule.RuleId.TheVariants.{E001, E003, E004, E006, E011, E012, E013, E015, E016, E019, E020, E021, E023, E024, E035, E041, E047, E050, E052, W001, W002, W003, W005, W006, W009}
+use Rattle.rule_table.specs.declared.rule.RuleId.TheVariants.{E001, E003, E004, E006, E011, E012, E013, E015, E016, E019, E020, E021, E023, E024, E035, E041, E047, E050, E052, W001, W002, W003, W005, W006, W009, X001}
 use Rattle.rule_table.specs.Asked.{ask_at}
 use Rattle.rule_table.specs.Cited.{broken_from}
 use Rattle.rule_table.specs.ClearSlots.{IsClear}
@@ -102,7 +102,7 @@ module _ (answer : Ask → Option CellValue) (key : EntityKey) (e : Value entity
                                         lacks_first W001 S59 cite.Holder _ S50 refl refl refl refl (rw h refl),
                                         (
                                           lacks_first W002 S58 cite.Holder _ S50 refl refl refl refl (rw h refl),
-                                          (lacks W003 S52 refl refl (rw h refl), (lacks W003 S58 refl refl (rw h refl), (lacks_first W009 S55 cite.Holder _ S51 refl refl refl refl (rw h refl), tt))),
+                                          (lacks W003 S52 refl refl (rw h refl), (lacks W003 S58 refl refl (rw h refl), (lacks_first W009 S55 cite.Holder _ S51 refl refl refl refl (rw h refl), (lacks X001 S59 refl refl (rw h refl), tt)))),
                                         ),
                                       ),
                                     ),

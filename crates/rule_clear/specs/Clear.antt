@@ -8,7 +8,7 @@ use Rattle.feed_values.specs.declared.cell_value.CellValue.{CellValue}
 use Rattle.rule_table.specs.declared.ask.Ask.{Ask}
 use Rattle.rule_table.specs.declared.key.EntityKey.{EntityKey}
 use Rattle.rule_table.specs.declared.rule.RuleId.{RuleId}
-use Rattle.rule_table.specs.declared.rule.RuleId.TheVariants.{E001, E002, E003, E004, E006, E009, E011, E012, E013, E015, E016, E019, E020, E021, E022, E023, E024, E025, E035, E036, E037, E040, E041, E042, E043, E044, E045, E046, E047, E050, E051, E052, W001, W002, W003, W005, W006, W009}
+use Rattle.rule_table.specs.declared.rule.RuleId.TheVariants.{E001, E002, E003, E004, E006, E009, E011, E012, E013, E015, E016, E019, E020, E021, E022, E023, E024, E025, E035, E036, E037, E040, E041, E042, E043, E044, E045, E046, E047, E050, E051, E052, W001, W002, W003, W005, W006, W009, X001}
 use Rattle.rule_clear.specs.declared.clear.Clear.{Clear}
 use Rattle.rule_clear.specs.declared.clear.Settling.{Settling}
 use Rattle.rule_clear.specs.declared.clear.Settling.TheVariants.{Soundness, Relationships, Timetable, Sequences, Assignments, NoTripUpdate, NoVehicle, Nothing}
@@ -40,7 +40,7 @@ without_update = (E001, update_timestamp) ∷ (E003, update_trip_id) ∷ (E004, 
 
 abbrev pub without_vehicle : List (RuleId × Slot)
 without_vehicle = (E001, vehicle_timestamp) ∷ (E003, vehicle_trip_id) ∷ (E004, vehicle_route_id) ∷ (E006, vehicle_trip_id) ∷ (E011, vehicle_stop_id) ∷ (E012, vehicle_timestamp) ∷ (E013, vehicle_trip_relationship) ∷ (E015, vehicle_stop_id) ∷ (E016, vehicle_trip_id) ∷ (E019, vehicle_start_time) ∷ (E020, vehicle_start_time) ∷ (E021, vehicle_start_date)
-    ∷ (E023, vehicle_start_time) ∷ (E024, vehicle_direction_id) ∷ (E035, vehicle_route_id) ∷ (E047, vehicle_id) ∷ (E050, vehicle_timestamp) ∷ (E052, vehicle_id) ∷ (W001, vehicle_timestamp) ∷ (W002, vehicle_id) ∷ (W003, vehicle_trip_id) ∷ (W003, vehicle_id) ∷ (W009, vehicle_trip_relationship) ∷ []
+    ∷ (E023, vehicle_start_time) ∷ (E024, vehicle_direction_id) ∷ (E035, vehicle_route_id) ∷ (E047, vehicle_id) ∷ (E050, vehicle_timestamp) ∷ (E052, vehicle_id) ∷ (W001, vehicle_timestamp) ∷ (W002, vehicle_id) ∷ (W003, vehicle_trip_id) ∷ (W003, vehicle_id) ∷ (W009, vehicle_trip_relationship) ∷ (X001, vehicle_timestamp) ∷ []
 
 abbrev pub when : {A : Type 0} → Bool → List A → List A
 when true l = l

@@ -206,9 +206,10 @@ fn what_settles(rule: RuleId, slot: Slot) -> Settling
         (RuleId::E047 | RuleId::E052 | RuleId::W002 | RuleId::W003, Slot::VEHICLE_ID) => {
             Settling::NoVehicle
         }
-        (RuleId::E001 | RuleId::E012 | RuleId::E050 | RuleId::W001, Slot::VEHICLE_TIMESTAMP) => {
-            Settling::NoVehicle
-        }
+        (
+            RuleId::E001 | RuleId::E012 | RuleId::E050 | RuleId::W001 | RuleId::X001,
+            Slot::VEHICLE_TIMESTAMP,
+        ) => Settling::NoVehicle,
         (RuleId::E011 | RuleId::E015, Slot::VEHICLE_STOP_ID) => Settling::NoVehicle,
         _ => Settling::Nothing,
     }

@@ -15,6 +15,7 @@ pub use Rattle.rule_table.specs.Order
 pub use Rattle.rule_table.specs.SameFacts
 pub use Rattle.rule_table.specs.Counts
 pub use Rattle.rule_table.specs.Pairs
+pub use Rattle.rule_table.specs.Peaks
 pub use Rattle.rule_table.specs.Answers
 pub use Rattle.rule_table.specs.Groups
 pub use Rattle.rule_table.specs.EachRule
@@ -29,6 +30,7 @@ pub use Rattle.rule_table.specs.Asks
 pub use Rattle.rule_table.specs.Same
 pub use Rattle.rule_table.specs.SameHeads
 pub use Rattle.rule_history.specs.History
+pub use Rattle.rule_history.specs.Peaks as HistoryPeaks
 pub use Rattle.rule_history.specs.Answered
 pub use Rattle.rule_history.specs.Findings
 pub use Rattle.rule_history.specs.Standing

@@ -9,8 +9,9 @@ pub use rule_evidence::{
 };
 pub use rule_table::{
     Answers, Ask, AskRef, Atom, Both, Bound, BoundRule, Cite, ClearSlots, EntityKey, Fact, FactRef,
-    Finding, FindingList, HeadRule, Kind, Mark, NoneClear, PairRule, PairView, Place, PlaceRef,
-    RuleId, Rules, all_rules, ask_of, cell_of, cites, cites_at, first, head_cites, head_slots,
-    head_test, is_in_range, judge_head, judge_heads, judge_mark, judge_rules, mark_rules,
-    number_cell, slots, slots_at, test, test_at, test_passes, text_cell, truth_cell,
+    Finding, FindingList, HeadRule, Kind, Mark, NoneClear, PairRule, PairView, PeakRule, PeakView,
+    Place, PlaceRef, RuleId, Rules, all_rules, ask_of, cell_of, cites, cites_at, first, head_cites,
+    head_slots, head_test, is_in_range, judge_head, judge_heads, judge_mark, judge_rules,
+    mark_rules, number_cell, slots, slots_at, stamp_cell, test, test_at, test_passes, text_cell,
+    truth_cell,
 };

@@ -401,6 +401,7 @@ of_cite at vs k cite.AnyRow a e q = cc
 of_cite at vs k (cite.HasId j) a e q = cc
 of_cite at vs k (cite.FirstId j) a e q = cc
 of_cite at vs k (cite.FirstOccurrence j) a e q = cc
+of_cite at vs k (cite.Peak j) a e q = cc
 
 by_key : (at : Place) (k : ℕ) (vs : List CellValue) (cs : List Cite) (fs : List Fact) → list_any (keyed k) cs ≡ true → IsFormed at vs cs fs → is_given (value_at (vs ++ values_of fs) k) ≡ true
 by_key at k vs [] fs g h = cc
@@ -462,6 +463,7 @@ ask_here key p vs cite.AnyRow t x h = cc
 ask_here key p vs (cite.HasId j) t x h = cc
 ask_here key p vs (cite.FirstId j) t x h = cc
 ask_here key p vs (cite.FirstOccurrence j) t x h = cc
+ask_here key p vs (cite.Peak j) t x h = cc
 
 here_is : (answer : Ask → Option CellValue) (key : EntityKey) (p : Path) (vs : List CellValue) (cs : List Cite) (fs : List Fact) (k : ℕ) (c : Cite) (t : Slot) → has_item (way p.slot) ≡ true
     → IsFormed (place.Entity key p) vs cs fs → AllHold answer fs → slice_get cs k ≡ Some c → here_slot p.slot c ≡ Some t → answer (ask.Cell (path_at t p.index)) ≡ Some (value_at (values_of fs) k)

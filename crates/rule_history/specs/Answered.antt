@@ -29,7 +29,8 @@ use Rattle.rule_table.specs.Order.{same_key}
 use Rattle.rule_history.specs.History.{Snapshot, Keyed, now, before, entities, below, feed_limit}
 use Rattle.rule_table.specs.Pairs as pairs
 use Rattle.rule_table.specs.Pairs.{PairRow}
-pub use Rattle.rule_table.specs.Answers.{yes, count_cell, natural_cell, entity_answer, Heads, previous_cell, heads_answer, rows_answer, pair_answer, limit_answer, bound_answer}
+use Rattle.rule_history.specs.Peaks.{peak}
+pub use Rattle.rule_table.specs.Answers.{yes, count_cell, natural_cell, entity_answer, Heads, previous_cell, heads_answer, rows_answer, peaks_answer, Gathered, gathered_answer, pair_answer, peak_answer, limit_answer, bound_answer}
 
 -- ---- a timetable
 -- what a timetable's files say, where it is there
@@ -106,6 +107,10 @@ rows_in es = flat_map (λ e. pairs.rows_of e.0 (entity_of e.1)) es
 abbrev pub rows : List Snapshot → List PairRow
 rows h = below (λ f. rows_in (entities h f)) feed_limit
 
+-- with the peaks of all feeds
+abbrev pub gathered : List Snapshot → Gathered
+gathered h = record { rows = rows h; peaks = peak h }
+
 -- whether the entities of two snapshots differ, as lists of byte strings
 abbrev pub entities_differ : List ℕ → Option Snapshot → Bool
 entities_differ bytes None = false
@@ -126,7 +131,7 @@ payload_under key es = option_map (λ e. e.1) (find (λ e. same_key e.0 key) es)
 -- what is answered of a feed, whatever the place in it
 abbrev pub feed_answer : Option Tables → List Snapshot → ℕ → Ask → Option CellValue
 feed_answer t h f a =
-    option_and_then (λ s. option_or (heads_answer (heads_of s (before h f)) a) (option_or (timetable_answer t a) (rows_answer (rows h) a))) (now h f)
+    option_and_then (λ s. option_or (heads_answer (heads_of s (before h f)) a) (option_or (timetable_answer t a) (gathered_answer (gathered h) a))) (now h f)
 
 -- what is answered at an entity
 abbrev pub answer_under : Option Tables → List Snapshot → EntityKey → Ask → Option CellValue

@@ -1,4 +1,4 @@
--- What one more snapshot changes: the entities that are judged anew, of which there are three sets.
+-- What one more snapshot changes: the entities that are judged anew, of which there are four sets.
 use Rattle.std.specs.Prelude.{ℕ, ◌+◌, ◌==◌, ℤ, Bool, true, false, not, ◌&&◌, ◌||◌, List, [], ◌∷◌, ◌++◌, filter, Option, Some, None, bytes_eq, if◌then◌else◌}
 use Rattle.std.specs.List.{list_any}
 use Rattle.std.specs.Ordering.{int_eq}
@@ -13,10 +13,12 @@ use Rattle.rule_table.specs.declared.rule.RuleId.TheVariants.{E012, E050}
 use Rattle.rule_table.specs.Rules.{same_rule}
 use Rattle.rule_table.specs.Order.{same_key}
 use Rattle.rule_table.specs.Found.{Found}
+use Rattle.rule_table.specs.Peaks.{vehicle_id_of}
 use Rattle.rule_table.specs.Pairs.{PairRow, rows_of, any_row, has_row, shares}
 use Rattle.rule_history.specs.History.{Snapshot, Keyed, now, entities, below, feed_limit}
 use Rattle.rule_history.specs.Answered.{rows, payload_under}
 use Rattle.rule_history.specs.Findings.{findings}
+use Rattle.rule_history.specs.Peaks.{FeedPeaks, peak}
 
 -- A history g and one more snapshot s at its end.
 abbrev pub with : List Snapshot → Snapshot → List Snapshot
@@ -85,6 +87,20 @@ has_bound t h key = list_any (is_bound_at key) (findings t h)
 abbrev pub in_bounded : Option Tables → List Snapshot → Snapshot → Keyed → Bool
 in_bounded t g s e = e.0.feed == s.feed && not (keeps_bounds s (now g s.feed)) && (has_bound t g e.0 || has_bound t (with g s) e.0)
 
+-- ---- peaked: entities whose vehicle's peak is another
+abbrev pub same_natural : Option ℕ → Option ℕ → Bool
+same_natural None None = true
+same_natural (Some a) (Some b) = a == b
+same_natural _ _ = false
+
+-- whether a vehicle, if one is given, has another peak
+abbrev pub has_moved : FeedPeaks → FeedPeaks → Option (List ℕ) → Bool
+has_moved old new None = false
+has_moved old new (Some vehicle) = not (same_natural (old vehicle) (new vehicle))
+
+abbrev pub in_peaked : List Snapshot → Snapshot → Keyed → Bool
+in_peaked g s e = e.0.feed == s.feed && has_moved (peak g s.feed) (peak (with g s) s.feed) (vehicle_id_of (entity_of e.1))
+
 -- ---- how many there are
 abbrev pub count_of : {A : Type 0} → (A → Bool) → List A → ℕ
 count_of test [] = 0
@@ -102,3 +118,6 @@ paired g s = count_of (λ e. in_tested g s e || in_paired g s e) (all_entities (
 
 abbrev pub bounded : Option Tables → List Snapshot → Snapshot → ℕ
 bounded t g s = count_of (λ e. in_tested g s e || in_bounded t g s e) (all_entities (with g s))
+
+abbrev pub peaked : List Snapshot → Snapshot → ℕ
+peaked g s = count_of (λ e. in_tested g s e || in_peaked g s e) (all_entities (with g s))

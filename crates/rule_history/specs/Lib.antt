@@ -6,6 +6,7 @@ pub use Rattle.rule_table.specs.Order
 pub use Rattle.rule_table.specs.Pairs
 pub use Rattle.rule_table.specs.Table
 pub mod History
+pub mod Peaks
 pub mod Answered
 pub mod Findings
 pub mod Standing

@@ -65,6 +65,7 @@ unasked at vs n (cite.FirstVehicle k) v h = rw (eqb-true k n h, v) refl
 unasked at vs n (cite.HasId k) v h = rw (eqb-true k n h, v) refl
 unasked at vs n (cite.FirstId k) v h = rw (eqb-true k n h, v) refl
 unasked at vs n (cite.FirstOccurrence k) v h = rw (eqb-true k n h, v) refl
+unasked at vs n (cite.Peak k) v h = rw (eqb-true k n h, v) refl
 unasked at vs n (cite.OnGrid j k) v h = either_is j k n (ask_at at vs (cite.OnGrid j k) ≡ None) h (λ e. rw (e, v) refl) (λ e. rw (e, v) (no_last ask.OnGrid (text_at vs j)))
 unasked at vs n (cite.StopAt j k) v h = either_is j k n (ask_at at vs (cite.StopAt j k) ≡ None) h (λ e. rw (e, v) refl) (λ e. rw (e, v) (no_last ask.StopAt (text_at vs j)))
 unasked at vs n (cite.EventAt j k) v h = either_is j k n (ask_at at vs (cite.EventAt j k) ≡ None) h (λ e. rw (e, v) refl) (λ e. rw (e, v) (no_last (event_ask (slot_of at)) (text_at vs j)))
@@ -237,6 +238,7 @@ module _ (answer : Ask → Option CellValue) (at : Place) (atoms : List Atom) wh
   place_is (cite.HasId k) h = never h
   place_is (cite.FirstId k) h = never h
   place_is (cite.FirstOccurrence k) h = never h
+  place_is (cite.Peak k) h = never h
   place_is (cite.OnGrid j k) h = never h
   place_is (cite.StopAt j k) h = never h
   place_is (cite.EventAt j k) h = never h

@@ -1,4 +1,4 @@
--- What asks are answered by what is at hand of a feed: by an entity, by headers and by pairing rows.
+-- What asks are answered by what is at hand of a feed: by an entity, by headers, by pairing rows and by peaks.
 -- (GTFS Realtime Reference 2.0, "FeedHeader"; which asks there are is this profile's.)
 use Rattle.std.specs.Prelude.{ℕ, ℤ, pos, Bool, List, Option, Some, None, option_map}
 use Rattle.std.specs.Option.{option_or}
@@ -15,6 +15,7 @@ use Rattle.rule_table.specs.declared.ask.Ask.TheVariants as ask
 use Rattle.rule_table.specs.declared.key.EntityKey.{EntityKey}
 use Rattle.rule_table.specs.Pairs as pairs
 use Rattle.rule_table.specs.Pairs.{PairRow}
+use Rattle.rule_table.specs.Peaks.{PeakMap}
 
 -- 1 or 0
 abbrev pub yes : Bool → CellValue
@@ -63,10 +64,27 @@ rows_answer rows (ask.FirstId feed vehicle) = Some (text_cell (option_map (λ ke
 rows_answer rows (ask.FirstOccurrence feed vehicle) = Some (natural_cell (option_map (λ key. key.occurrence) (pairs.first_key rows feed vehicle)))
 rows_answer rows _ = None
 
+-- ---- peaks
+abbrev pub peaks_answer : PeakMap → Ask → Option CellValue
+peaks_answer peaks (ask.Peak feed vehicle) = Some (natural_cell (peaks feed vehicle))
+peaks_answer peaks _ = None
+
+-- ---- what is gathered of all feeds: their pairing rows and peaks
+pub record Gathered : Type 0 where
+  pub rows : List PairRow
+  pub peaks : PeakMap
+
+abbrev pub gathered_answer : Gathered → Ask → Option CellValue
+gathered_answer u a = option_or (rows_answer u.rows a) (peaks_answer u.peaks a)
+
 -- ---- what the rules of one kind are answered
 -- by an entity and pairing rows
 abbrev pub pair_answer : List PairRow → EntityKey → Value entity → Ask → Option CellValue
 pair_answer rows key e a = option_or (entity_answer key e a) (rows_answer rows a)
+
+-- by an entity and peaks
+abbrev pub peak_answer : PeakMap → EntityKey → Value entity → Ask → Option CellValue
+peak_answer peaks key e a = option_or (entity_answer key e a) (peaks_answer peaks a)
 
 -- by an entity, a header's timestamp and a moment
 abbrev pub limit_answer : Option ℤ → ℕ → Ask → Option CellValue

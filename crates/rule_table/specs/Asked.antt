@@ -206,6 +206,7 @@ ask_at at vs cite.AnyRow = Some (ask.AnyRow (other_kind (slot_of at)))
 ask_at at vs (cite.HasId k) = option_map (id_ask (slot_of at)) (text_at vs k)
 ask_at at vs (cite.FirstId k) = option_map (ask.FirstId (feed_of at)) (text_at vs k)
 ask_at at vs (cite.FirstOccurrence k) = option_map (ask.FirstOccurrence (feed_of at)) (text_at vs k)
+ask_at at vs (cite.Peak k) = option_map (ask.Peak (feed_of at)) (text_at vs k)
 
 -- ---- what borrowed values say
 abbrev pub ask_value : AskRef → Ask
@@ -235,6 +236,7 @@ ask_value (borrowed.HasTrip kind trip) = ask.HasTrip kind trip.now
 ask_value (borrowed.HasVehicle kind vehicle) = ask.HasVehicle kind vehicle.now
 ask_value (borrowed.FirstId feed vehicle) = ask.FirstId feed vehicle.now
 ask_value (borrowed.FirstOccurrence feed vehicle) = ask.FirstOccurrence feed vehicle.now
+ask_value (borrowed.Peak feed vehicle) = ask.Peak feed vehicle.now
 
 abbrev pub fact_value : FactRef → Fact
 fact_value f = record { ask = ask_value f.ask; value = cell_value f.cell }

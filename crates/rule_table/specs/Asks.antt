@@ -3,7 +3,7 @@ use Rattle.std.specs.Prelude.{Bool, true, false, List, [], ◌∷◌}
 use Rattle.std.specs.List.{list_any}
 use Rattle.feed_values.specs.declared.slot.Slot.{Slot}
 use Rattle.rule_table.specs.declared.rule.RuleId.{RuleId}
-use Rattle.rule_table.specs.Sources.{Source, from_entity, from_timetable, from_rows, from_bounds, source_at}
+use Rattle.rule_table.specs.Sources.{Source, from_entity, from_timetable, from_rows, from_peaks, from_bounds, source_at}
 use Rattle.rule_table.specs.Table.{slots_of, head_slots_of, cites_of}
 
 abbrev pub has_some : List Slot → Bool
@@ -33,6 +33,10 @@ is_timetable _ = false
 abbrev pub is_rows : Source → Bool
 is_rows from_rows = true
 is_rows _ = false
+
+abbrev pub is_peaks : Source → Bool
+is_peaks from_peaks = true
+is_peaks _ = false
 
 abbrev pub is_bounds : Source → Bool
 is_bounds from_bounds = true

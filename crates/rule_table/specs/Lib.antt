@@ -17,6 +17,7 @@ pub mod SameFacts
 pub mod Parts
 pub mod Counts
 pub mod Pairs
+pub mod Peaks
 pub mod Ids
 pub mod Answers
 pub mod Groups

@@ -54,6 +54,7 @@ parts_of (ask.HasTrip k a) = of_text 22 (kind_number k) a
 parts_of (ask.HasVehicle k v) = of_text 23 (kind_number k) v
 parts_of (ask.FirstId f v) = of_text 24 f v
 parts_of (ask.FirstOccurrence f v) = of_text 25 f v
+parts_of (ask.Peak f v) = of_text 26 f v
 
 abbrev pub same_parts : AskParts → AskParts → Bool
 same_parts a b = a.what == b.what && a.number == b.number && a.index == b.index && bytes_eq a.first b.first && bytes_eq a.second b.second
@@ -122,4 +123,5 @@ parts_same (ask.HasTrip k a) (ask.HasTrip l b) = with_text (kind_number k == kin
 parts_same (ask.HasVehicle k a) (ask.HasVehicle l b) = with_text (kind_number k == kind_number l) (bytes_eq a b)
 parts_same (ask.FirstId f a) (ask.FirstId g b) = with_text (f == g) (bytes_eq a b)
 parts_same (ask.FirstOccurrence f a) (ask.FirstOccurrence g b) = with_text (f == g) (bytes_eq a b)
+parts_same (ask.Peak f a) (ask.Peak g b) = with_text (f == g) (bytes_eq a b)
 parts_same _ _ = refl

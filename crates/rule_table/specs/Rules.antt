@@ -1,7 +1,7 @@
 -- The names of the rules.
 use Rattle.std.specs.Prelude.{ℕ, ◌==◌, Bool, List, codes, take}
 use Rattle.rule_table.specs.declared.rule.RuleId.{RuleId}
-use Rattle.rule_table.specs.declared.rule.RuleId.TheVariants.{E001, E002, E003, E004, E006, E009, E011, E012, E013, E015, E016, E017, E018, E019, E020, E021, E022, E023, E024, E025, E030, E031, E032, E033, E034, E035, E036, E037, E038, E039, E040, E041, E042, E043, E044, E045, E046, E047, E048, E049, E050, E051, E052, W001, W002, W003, W005, W006, W007, W008, W009, X002}
+use Rattle.rule_table.specs.declared.rule.RuleId.TheVariants.{E001, E002, E003, E004, E006, E009, E011, E012, E013, E015, E016, E017, E018, E019, E020, E021, E022, E023, E024, E025, E030, E031, E032, E033, E034, E035, E036, E037, E038, E039, E040, E041, E042, E043, E044, E045, E046, E047, E048, E049, E050, E051, E052, W001, W002, W003, W005, W006, W007, W008, W009, X001, X002}
 
 -- a rule's text
 abbrev pub rule_name : RuleId → List ℕ
@@ -56,6 +56,7 @@ rule_name W006 = codes "W006"
 rule_name W007 = codes "W007"
 rule_name W008 = codes "W008"
 rule_name W009 = codes "W009"
+rule_name X001 = codes "X001"
 rule_name X002 = codes "X002"
 
 -- how much a finding of it weighs: the first letter of its text, E an error, W a warning, X an error of this profile's own
@@ -115,7 +116,8 @@ rule_number W006 = 47
 rule_number W007 = 48
 rule_number W008 = 49
 rule_number W009 = 50
-rule_number X002 = 51
+rule_number X001 = 51
+rule_number X002 = 52
 
 abbrev pub same_rule : RuleId → RuleId → Bool
 same_rule a b = rule_number a == rule_number b

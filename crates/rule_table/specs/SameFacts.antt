@@ -34,6 +34,7 @@ same_ask (ask.HasTrip k a) (ask.HasTrip l b) = same_kind k l && bytes_eq a b
 same_ask (ask.HasVehicle k a) (ask.HasVehicle l b) = same_kind k l && bytes_eq a b
 same_ask (ask.FirstId f a) (ask.FirstId g b) = f == g && bytes_eq a b
 same_ask (ask.FirstOccurrence f a) (ask.FirstOccurrence g b) = f == g && bytes_eq a b
+same_ask (ask.Peak f a) (ask.Peak g b) = f == g && bytes_eq a b
 same_ask _ _ = false
 
 abbrev pub same_facts : List Fact → List Fact → Bool

@@ -3,7 +3,7 @@ use Rattle.std.specs.Prelude.{ℕ, suc, ◌==◌, Bool, true, false, not, ◌&&�
 use Rattle.std.specs.List.{list_any}
 use Rattle.rule_table.specs.declared.rule.RuleId.{RuleId}
 use Rattle.rule_table.specs.declared.row.Cite.{Cite}
-use Rattle.rule_table.specs.declared.row.Cite.TheVariants.{Place, TripKnown, RouteKnown, AgencyKnown, StopKind, TripRoute, TripDirection, TripExact, OnGrid, VisitsTwice, FirstArrival, StopAt, EventAt, FirstVehicle, HasPair, HasId, FirstId, FirstOccurrence}
+use Rattle.rule_table.specs.declared.row.Cite.TheVariants.{Place, TripKnown, RouteKnown, AgencyKnown, StopKind, TripRoute, TripDirection, TripExact, OnGrid, VisitsTwice, FirstArrival, StopAt, EventAt, FirstVehicle, HasPair, HasId, FirstId, FirstOccurrence, Peak}
 use Rattle.rule_table.specs.declared.row.Atom.{Atom}
 use Rattle.rule_table.specs.declared.row.Atom.TheVariants.{Given, Missing, Is, AtLeast, Outside, NotBelow, Below, Above, Equal, Differ, IsTime, NotClock, NotDate, TimeDiffers, IsVersion2}
 use Rattle.rule_table.specs.Table.{cites_of, test_of}
@@ -27,6 +27,7 @@ names n (HasPair j k) = j == n || k == n
 names n (HasId k) = k == n
 names n (FirstId k) = k == n
 names n (FirstOccurrence k) = k == n
+names n (Peak k) = k == n
 names n _ = false
 
 -- a condition is false where the value with a number is given, or where it is missing, whatever the others are

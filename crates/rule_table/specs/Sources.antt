@@ -1,4 +1,4 @@
--- From what the facts of a rule come: from its entity, the timetable, pairing rows, the two bounds of a timestamp, or from what
+-- From what the facts of a rule come: from its entity, the timetable, pairing rows, peaks, the two bounds of a timestamp, or from what
 -- else is known of headers.
 use Rattle.std.specs.Prelude.{◌≡◌, ℕ, Bool, true, false, List, [], ◌∷◌, Option, Some, None, option_map, refl}
 use Rattle.std.specs.List.{list_all}
@@ -22,6 +22,7 @@ pub data Source : Type 0 where
   from_entity : Source
   from_timetable : Source
   from_rows : Source
+  from_peaks : Source
   from_bounds : Source
   from_headers : Source
 
@@ -53,6 +54,7 @@ source_of (ask.HasTrip kind trip) = from_rows
 source_of (ask.HasVehicle kind vehicle) = from_rows
 source_of (ask.FirstId feed vehicle) = from_rows
 source_of (ask.FirstOccurrence feed vehicle) = from_rows
+source_of (ask.Peak feed vehicle) = from_peaks
 
 -- what an entry of a row asks at an entity
 abbrev pub source_at : Cite → Source
@@ -79,6 +81,7 @@ source_at cite.AnyRow = from_rows
 source_at (cite.HasId k) = from_rows
 source_at (cite.FirstId k) = from_rows
 source_at (cite.FirstOccurrence k) = from_rows
+source_at (cite.Peak k) = from_peaks
 source_at _ = from_entity
 
 -- whether all facts of a rule at an entity come from what passes
@@ -104,6 +107,11 @@ abbrev pub is_paired : Source → Bool
 is_paired from_entity = true
 is_paired from_rows = true
 is_paired _ = false
+
+abbrev pub is_peaked : Source → Bool
+is_peaked from_entity = true
+is_peaked from_peaks = true
+is_peaked _ = false
 
 abbrev pub is_bounded : Source → Bool
 is_bounded from_entity = true
@@ -177,3 +185,4 @@ asked_from key p vs cite.AnyRow q h = asked_is _ q from_rows refl h
 asked_from key p vs (cite.HasId k) q h = asked_one (id_ask p.slot) from_rows (id_source p.slot) (text_at vs k) q h
 asked_from key p vs (cite.FirstId k) q h = asked_one (ask.FirstId key.feed) from_rows (λ x. refl) (text_at vs k) q h
 asked_from key p vs (cite.FirstOccurrence k) q h = asked_one (ask.FirstOccurrence key.feed) from_rows (λ x. refl) (text_at vs k) q h
+asked_from key p vs (cite.Peak k) q h = asked_one (ask.Peak key.feed) from_peaks (λ x. refl) (text_at vs k) q h

@@ -1,19 +1,19 @@
 -- The rules, row by row: where a rule is judged, which facts it cites there, and when they break it.
--- (This profile. The fields are those of the GTFS Realtime Reference 2.0; the numbers of the rules, but for X002, are those
+-- (This profile. The fields are those of the GTFS Realtime Reference 2.0; the numbers of the rules, but for X001 and X002, are those
 -- of MobilityData's gtfs-realtime-validator, RULES.md, and nothing else of it.)
 use Rattle.std.specs.Prelude.{ℕ, List, [], ◌∷◌}
 use Rattle.feed_values.specs.declared.slot.Slot.{Slot}
 use Rattle.feed_values.specs.SlotNames.{header_version, header_incrementality, header_timestamp, entity_id, entity_is_deleted, update, update_trip_id, update_start_time, update_start_date, update_trip_relationship, update_route_id, update_direction_id, update_stops, update_vehicle_id, update_timestamp, update_stop, update_stop_sequence, update_stop_id, update_stop_relationship, update_arrival, update_arrival_time, update_departure, update_departure_time, update_assigned_stop_id, update_properties_start_date, update_properties_start_time, vehicle_trip_id, vehicle_start_time, vehicle_start_date, vehicle_trip_relationship, vehicle_route_id, vehicle_direction_id, vehicle_id, vehicle_timestamp, vehicle_stop_id, alert_start, alert_end, alert_selectors, alert_selector, alert_agency_id, alert_route_id, alert_route_type, alert_trip, alert_trip_id, alert_start_time, alert_start_date, alert_trip_route_id, alert_direction_id, alert_stop_id}
 use Rattle.rule_table.specs.declared.rule.RuleId.{RuleId}
-use Rattle.rule_table.specs.declared.rule.RuleId.TheVariants.{E001, E002, E003, E004, E006, E009, E011, E012, E013, E015, E016, E017, E018, E019, E020, E021, E022, E023, E024, E025, E030, E031, E032, E033, E034, E035, E036, E037, E038, E039, E040, E041, E042, E043, E044, E045, E046, E047, E048, E049, E050, E051, E052, W001, W002, W003, W005, W006, W007, W008, W009, X002}
+use Rattle.rule_table.specs.declared.rule.RuleId.TheVariants.{E001, E002, E003, E004, E006, E009, E011, E012, E013, E015, E016, E017, E018, E019, E020, E021, E022, E023, E024, E025, E030, E031, E032, E033, E034, E035, E036, E037, E038, E039, E040, E041, E042, E043, E044, E045, E046, E047, E048, E049, E050, E051, E052, W001, W002, W003, W005, W006, W007, W008, W009, X001, X002}
 use Rattle.rule_table.specs.declared.row.Cite.{Cite}
-use Rattle.rule_table.specs.declared.row.Cite.TheVariants.{Place, Cell, Before, TripId, StartTime, StartDate, Relationship, Delay, Time, Holder, HeadNow, HeadBefore, Moment, Occurrence, EntitiesChanged, TripKnown, RouteKnown, AgencyKnown, StopKind, TripRoute, TripDirection, TripExact, OnGrid, VisitsTwice, FirstArrival, StopAt, EventAt, FirstVehicle, HasPair, AnyRow, HasId, FirstId, FirstOccurrence}
+use Rattle.rule_table.specs.declared.row.Cite.TheVariants.{Place, Cell, Before, TripId, StartTime, StartDate, Relationship, Delay, Time, Holder, HeadNow, HeadBefore, Moment, Occurrence, EntitiesChanged, TripKnown, RouteKnown, AgencyKnown, StopKind, TripRoute, TripDirection, TripExact, OnGrid, VisitsTwice, FirstArrival, StopAt, EventAt, FirstVehicle, HasPair, AnyRow, HasId, FirstId, FirstOccurrence, Peak}
 use Rattle.rule_table.specs.declared.row.Atom.{Atom}
 use Rattle.rule_table.specs.declared.row.Atom.TheVariants.{Given, Missing, Is, IsNot, AtLeast, AnyMissing, Outside, NotBelow, Below, Above, Equal, Differ, IsTime, NotClock, NotDate, TimeDiffers, NotLater, NotVersion, IsVersion2, NotVersion2, NotItself}
 
 -- the rules in the order of their texts
 abbrev pub all_rules : List RuleId
-all_rules = E001 ∷ E002 ∷ E003 ∷ E004 ∷ E006 ∷ E009 ∷ E011 ∷ E012 ∷ E013 ∷ E015 ∷ E016 ∷ E017 ∷ E018 ∷ E019 ∷ E020 ∷ E021 ∷ E022 ∷ E023 ∷ E024 ∷ E025 ∷ E030 ∷ E031 ∷ E032 ∷ E033 ∷ E034 ∷ E035 ∷ E036 ∷ E037 ∷ E038 ∷ E039 ∷ E040 ∷ E041 ∷ E042 ∷ E043 ∷ E044 ∷ E045 ∷ E046 ∷ E047 ∷ E048 ∷ E049 ∷ E050 ∷ E051 ∷ E052 ∷ W001 ∷ W002 ∷ W003 ∷ W005 ∷ W006 ∷ W007 ∷ W008 ∷ W009 ∷ X002 ∷ []
+all_rules = E001 ∷ E002 ∷ E003 ∷ E004 ∷ E006 ∷ E009 ∷ E011 ∷ E012 ∷ E013 ∷ E015 ∷ E016 ∷ E017 ∷ E018 ∷ E019 ∷ E020 ∷ E021 ∷ E022 ∷ E023 ∷ E024 ∷ E025 ∷ E030 ∷ E031 ∷ E032 ∷ E033 ∷ E034 ∷ E035 ∷ E036 ∷ E037 ∷ E038 ∷ E039 ∷ E040 ∷ E041 ∷ E042 ∷ E043 ∷ E044 ∷ E045 ∷ E046 ∷ E047 ∷ E048 ∷ E049 ∷ E050 ∷ E051 ∷ E052 ∷ W001 ∷ W002 ∷ W003 ∷ W005 ∷ W006 ∷ W007 ∷ W008 ∷ W009 ∷ X001 ∷ X002 ∷ []
 
 -- the slots of an entity at which a rule is judged, by rising number
 abbrev pub slots_of : RuleId → List Slot
@@ -61,6 +61,7 @@ slots_of W003 = update_trip_id ∷ update_vehicle_id ∷ vehicle_trip_id ∷ veh
 slots_of W005 = update_vehicle_id ∷ []
 slots_of W006 = update_trip_id ∷ []
 slots_of W009 = update_trip_relationship ∷ update_stop_relationship ∷ vehicle_trip_relationship ∷ []
+slots_of X001 = vehicle_timestamp ∷ []
 slots_of X002 = entity_id ∷ []
 slots_of _ = []
 
@@ -139,6 +140,7 @@ cites_of W006 = Cell update ∷ Place ∷ []
 cites_of W007 = HeadBefore header_timestamp ∷ Place ∷ []
 cites_of W008 = Place ∷ Moment ∷ []
 cites_of W009 = Holder ∷ Place ∷ []
+cites_of X001 = Cell vehicle_id ∷ Place ∷ Peak 0 ∷ []
 cites_of X002 = Place ∷ Occurrence ∷ []
 
 -- the test on their values: all of these hold
@@ -194,6 +196,7 @@ test_of W006 = Given 0 ∷ Missing 1 ∷ []
 test_of W007 = Above 1 0 35 ∷ []
 test_of W008 = Above 1 0 65 ∷ []
 test_of W009 = Given 0 ∷ Missing 1 ∷ []
+test_of X001 = Below 1 2 ∷ []
 test_of X002 = AtLeast 1 1 ∷ []
 
 -- On a header one rule has facts and a test of its own, and the others those that they have at an entity.

@@ -10,7 +10,7 @@ ghost use Rattle.feed_values.specs.Cells.{cell_value};
 use crate::ask::AskRef;
 use feed_values::{CellRef, Path};
 
-/// What answers asks, without memory: an entity with a timetable, headers, pairing rows.
+/// What answers asks, without memory: an entity with a timetable, headers, pairing rows, peaks.
 pub trait Answers {
     ghost answers: { Self → Ask → Option CellValue };
 

@@ -62,6 +62,8 @@ pub enum Ask {
     FirstId(u8, Text),
     /// The occurrence of that entity.
     FirstOccurrence(u8, Text),
+    /// The greatest timestamp of a vehicle in the snapshots of a feed before the last one, missing where it gave none.
+    Peak(u8, Text),
 }
 
 /// The same with borrowed texts.
@@ -93,6 +95,7 @@ pub enum AskRef<'a> {
     HasVehicle(Kind, &'a str),
     FirstId(u8, &'a str),
     FirstOccurrence(u8, &'a str),
+    Peak(u8, &'a str),
 }
 
 fn text_of(alloc: Global, text: &str) -> Result<Text, AllocError>
@@ -139,6 +142,7 @@ impl Ask {
             Ask::HasVehicle(kind, vehicle) => AskRef::HasVehicle(*kind, vehicle.as_str()),
             Ask::FirstId(feed, vehicle) => AskRef::FirstId(*feed, vehicle.as_str()),
             Ask::FirstOccurrence(feed, vehicle) => AskRef::FirstOccurrence(*feed, vehicle.as_str()),
+            Ask::Peak(feed, vehicle) => AskRef::Peak(*feed, vehicle.as_str()),
         }
     }
 }
@@ -185,6 +189,7 @@ impl AskRef<'_> {
                 feed,
                 text_of(alloc, vehicle)?,
             ),
+            AskRef::Peak(feed, vehicle) => Ask::Peak(feed, text_of(alloc, vehicle)?),
         };
         Ok(ask)
     }
@@ -234,6 +239,8 @@ impl AskRef<'_> {
                 && vehicle == second.as_str(),
             (AskRef::FirstOccurrence(feed, vehicle), Ask::FirstOccurrence(first, second)) => feed
                 == *first
+                && vehicle == second.as_str(),
+            (AskRef::Peak(feed, vehicle), Ask::Peak(first, second)) => feed == *first
                 && vehicle == second.as_str(),
             _ => false,
         }

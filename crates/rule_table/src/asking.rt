@@ -227,6 +227,7 @@ pub fn ask_of<'a>(place: PlaceRef<'_>, cells: &[CellRef<'a>], cite: Cite) -> Opt
         Cite::HasId(k) => Some(has_id(slot, text_at(cells, k)?)),
         Cite::FirstId(k) => Some(AskRef::FirstId(feed(place), text_at(cells, k)?)),
         Cite::FirstOccurrence(k) => Some(AskRef::FirstOccurrence(feed(place), text_at(cells, k)?)),
+        Cite::Peak(k) => Some(AskRef::Peak(feed(place), text_at(cells, k)?)),
     }
 }
 

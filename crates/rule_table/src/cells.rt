@@ -108,6 +108,16 @@ pub fn number_cell(number: Option<u32>) -> CellRef<'static>
     }
 }
 
+/// A timestamp as a cell, `Missing` where there is none.
+pub fn stamp_cell(stamp: Option<u64>) -> CellRef<'static>
+    ensures { cell_value result ≡ natural_cell stamp }
+{
+    match stamp {
+        Some(stamp) => CellRef::Number(stamp as i128),
+        None => CellRef::Missing,
+    }
+}
+
 /// A text as a cell, `Missing` where there is none.
 pub fn text_cell(text: Option<&str>) -> CellRef<'_>
     ensures { cell_value result ≡ text_cell (option_copied text.entry) }

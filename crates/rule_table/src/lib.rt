@@ -16,8 +16,8 @@
 //! `ids` are those that a trip update or a vehicle position gives, `keys` puts keys in order, and `counting` counts the ids by which entities have them.
 //! `rule` names the rules, `row` is what a row is made of and `table` all of them. `cells` are cited cells, `passing` the tests on them,
 //! `answers` what answers asks. `asking` is what a row asks at a place, `citing` its facts there, and `judging` judges.
-//! What judges `rules` is of one of four sorts: `pair_rule` (over views of rows, `pair_view`), `bound_rule`, `head_rule`, and rules on one entity and
-//! the timetable, which stand above since this crate knows no timetable; `both` makes two groups one.
+//! What judges `rules` is of one of five sorts: `pair_rule` (over views of rows, `pair_view`), `bound_rule`, `peak_rule` (over views of peaks,
+//! `peak_view`), `head_rule`, and rules on one entity and the timetable, which stand above since this crate knows no timetable; `both` makes two groups one.
 #![tactic(auto)]
 
 mod answers;
@@ -44,6 +44,8 @@ mod pair_rule;
 mod pair_view;
 mod parts;
 mod passing;
+mod peak_rule;
+mod peak_view;
 mod place;
 mod row;
 mod rule;
@@ -57,7 +59,7 @@ pub use ask::{Ask, AskRef};
 pub use asking::ask_of;
 pub use both::Both;
 pub use bound_rule::{Bound, BoundRule};
-pub use cells::{cell_of, is_in_range, number_cell, text_cell, truth_cell};
+pub use cells::{cell_of, is_in_range, number_cell, stamp_cell, text_cell, truth_cell};
 pub use clear_slots::{ClearSlots, NoneClear};
 pub use counting::count_one;
 pub use fact::{Fact, FactRef};
@@ -74,6 +76,8 @@ pub use order::{feed_of, slot_number};
 pub use pair_rule::PairRule;
 pub use pair_view::PairView;
 pub use passing::test_passes;
+pub use peak_rule::PeakRule;
+pub use peak_view::PeakView;
 pub use place::{Place, PlaceRef};
 pub use row::{Atom, Cite};
 pub use rule::RuleId;

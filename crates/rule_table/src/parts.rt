@@ -94,6 +94,7 @@ pub(crate) fn parts_of(ask: AskRef<'_>) -> Parts<'_>
         AskRef::HasVehicle(kind, vehicle) => of_text(23, kind_number(kind), vehicle),
         AskRef::FirstId(feed, vehicle) => of_text(24, feed as u32, vehicle),
         AskRef::FirstOccurrence(feed, vehicle) => of_text(25, feed as u32, vehicle),
+        AskRef::Peak(feed, vehicle) => of_text(26, feed as u32, vehicle),
     }
 }
 

@@ -62,6 +62,8 @@ pub enum Cite {
     FirstId(usize),
     /// In the place's feed.
     FirstOccurrence(usize),
+    /// In the place's feed.
+    Peak(usize),
 }
 
 /// One condition of a row's test, on the values of its facts, which it names by their numbers from 0.

@@ -59,6 +59,7 @@ pub enum RuleId {
     W007,
     W008,
     W009,
+    X001,
     X002,
 }
 
@@ -119,6 +120,7 @@ impl RuleId {
             RuleId::W007 => "W007",
             RuleId::W008 => "W008",
             RuleId::W009 => "W009",
+            RuleId::X001 => "X001",
             RuleId::X002 => "X002",
         }
     }
@@ -144,7 +146,7 @@ impl RuleId {
             | RuleId::W007
             | RuleId::W008
             | RuleId::W009 => "W",
-            RuleId::X002 => "X",
+            RuleId::X001 | RuleId::X002 => "X",
             _ => "E",
         }
     }

@@ -65,6 +65,7 @@ pub fn all_rules() -> &'static [RuleId]
         RuleId::W007,
         RuleId::W008,
         RuleId::W009,
+        RuleId::X001,
         RuleId::X002,
     ]
 }
@@ -177,6 +178,7 @@ pub fn slots(rule: RuleId) -> &'static [Slot]
             Slot::UPDATE_STOP_RELATIONSHIP,
             Slot::VEHICLE_TRIP_RELATIONSHIP,
         ],
+        RuleId::X001 => &[Slot::VEHICLE_TIMESTAMP],
         RuleId::X002 => &[Slot::ENTITY_ID],
         _ => &[],
     }
@@ -343,6 +345,7 @@ pub fn cites(rule: RuleId) -> &'static [Cite]
         RuleId::W007 => &[Cite::HeadBefore(Slot::HEADER_TIMESTAMP), Cite::Place],
         RuleId::W008 => &[Cite::Place, Cite::Moment],
         RuleId::W009 => &[Cite::Holder, Cite::Place],
+        RuleId::X001 => &[Cite::Cell(Slot::VEHICLE_ID), Cite::Place, Cite::Peak(0)],
         RuleId::X002 => &[Cite::Place, Cite::Occurrence],
     }
 }
@@ -421,6 +424,7 @@ pub fn test(rule: RuleId) -> &'static [Atom]
         RuleId::W007 => &[Atom::Above(1, 0, 35)],
         RuleId::W008 => &[Atom::Above(1, 0, 65)],
         RuleId::W009 => &[Atom::Given(0), Atom::Missing(1)],
+        RuleId::X001 => &[Atom::Below(1, 2)],
         RuleId::X002 => &[Atom::AtLeast(1, 1)],
     }
 }
