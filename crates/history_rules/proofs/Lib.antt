@@ -1,1 +1,2 @@
+pub mod HeldPeaks
 pub mod StampGroups

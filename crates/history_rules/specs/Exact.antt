@@ -1,5 +1,5 @@
 -- A bound rule stands at a timestamp exactly where it is given and above the rule's bound, and nowhere else.
-use Rattle.std.specs.Prelude.{◌≡◌, ◌⊎◌, ◌↔◌, ℕ, ◌+◌, ◌<◌, ◌^◌, ℤ, pos, negsuc, int_le, ◌<ℤ◌, ◌+ℤ◌, nat_le, ◌==◌, Bool, true, false, not, ◌&&◌, T, List, [], ◌∷◌, ◌++◌, Option, Some, None, cond, refl}
+use Rattle.std.specs.Prelude.{◌≡◌, ◌↔◌, ℕ, ◌+◌, ◌<◌, ◌^◌, ℤ, pos, negsuc, int_le, ◌<ℤ◌, ◌+ℤ◌, ◌==◌, Bool, true, false, not, ◌&&◌, T, List, [], ◌∷◌, ◌++◌, Option, Some, None, cond, refl}
 use Rattle.std.proofs.Common.{inl, inr, sym, ap, ◌∙◌, subst, arith, leb}
 use borrow.Author.Tests.{ltb-true, lt-ltb, leb-false, lt-leb, le-leb, not-true, clash}
 use Rattle.feed_values.specs.declared.slot.Slot.{Slot}
@@ -20,12 +20,11 @@ use Rattle.rule_table.specs.declared.place.Place.{Place}
 use Rattle.rule_table.specs.declared.place.Place.TheVariants as place
 use Rattle.rule_table.specs.Order.{slot_number}
 use Rattle.rule_table.specs.Asked.{in_range, number_in}
-use Rattle.rule_table.specs.Passed.{numbers_are, passes}
-use Rattle.rule_table.specs.Cited.{and_then, answered, cited, values_of}
+use Rattle.rule_table.specs.Passed.{numbers_are}
+use Rattle.rule_table.specs.Cited.{and_then, answered}
 use Rattle.rule_table.specs.Answers.{bound_answer}
-use Rattle.rule_table.specs.Rows.{cites_at, test_at}
 use Rattle.rule_table.specs.Found.{Found}
-use Rattle.rule_table.specs.Judged.{found_of, found_at, found_by, found_all}
+use Rattle.rule_table.specs.Judged.{found_of, found_at, found_all}
 use Rattle.rule_table.specs.Groups.{Each, IsUnder, has_rule}
 use Rattle.rule_table.specs.GroupLaws.{Stands, at_place, row_own, all_own, each_append, each_weaken}
 use Rattle.rule_table.specs.BothLaws.{stands_left, stands_right, stands_either, rule_of}

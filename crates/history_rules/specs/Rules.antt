@@ -1,9 +1,9 @@
--- The rules on the timestamps of entities, and those on headers.
+-- The rules on the timestamps of entities, those on what a vehicle told before, and those on headers.
 use Rattle.std.specs.Prelude.{◌&&◌, filter, List}
 use Rattle.rule_table.specs.declared.bound_rule.Bound.{Bound}
 use Rattle.rule_table.specs.declared.bound_rule.Bound.TheVariants.{Header, Moment}
 use Rattle.rule_table.specs.declared.rule.RuleId.{RuleId}
-use Rattle.rule_table.specs.Asks.{asks, is_bounds, has_places, has_head_places}
+use Rattle.rule_table.specs.Asks.{asks, is_bounds, is_peaks, has_places, has_head_places}
 use Rattle.rule_table.specs.Table.{all_rules}
 use Rattle.rule_table.specs.declared.rule.RuleId.TheVariants.{E012}
 
@@ -15,6 +15,10 @@ bound_rules = filter (λ r. has_places r && asks is_bounds r) all_rules
 abbrev pub bound_of : RuleId → Bound
 bound_of E012 = Header
 bound_of _ = Moment
+
+-- those that ask for a peak, in the order of their texts
+abbrev pub peak_rules : List RuleId
+peak_rules = filter (λ r. has_places r && asks is_peaks r) all_rules
 
 -- those with places on a header, in the order of their texts
 abbrev pub head_rules : List RuleId
