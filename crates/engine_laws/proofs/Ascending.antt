@@ -37,10 +37,10 @@ use Rattle.rule_table.specs.Judged.{found_of, found_at, found_below, found_in, f
 use Rattle.rule_table.specs.Groups.{Each, IsOn, IsUnder}
 use Rattle.rule_table.specs.GroupLaws.{each_append, each_weaken, rise}
 use Rattle.rule_history.specs.Standing.{same_spot}
-use Rattle.rule_table.specs.Pairs.{PairRow}
+use Rattle.rule_table.specs.Answers.{Gathered}
 use Rattle.rule_history.specs.History.{Snapshot, Keyed, now, before, entities_in, feed_limit}
 use Rattle.rule_table.specs.Answers.{heads_answer}
-use Rattle.rule_history.specs.Answered.{heads_of, rows}
+use Rattle.rule_history.specs.Answered.{heads_of, gathered}
 use Rattle.rule_history.specs.Findings.{findings}
 use Rattle.engine_laws.specs.Order.{holder_cmp, found_cmp, Rises}
 use Rattle.engine_laws.specs.HeldFeeds.{head_found, held_answer, entity_found, entities_found, feed_found}
@@ -345,7 +345,7 @@ head_ascends s b = (heads_by (heads_answer (heads_of s b)) s.feed 0 all_rules re
 pub head_on : (s : Snapshot) (b : Option Snapshot) → Each (λ x. IsOn s.feed x.place) (head_found s b)
 head_on s b = each_weaken (IsBy 0 (IsOn s.feed)) (λ x. IsOn s.feed x.place) (λ x m. m.at) (head_found s b) (heads_by (heads_answer (heads_of s b)) s.feed 0 all_rules refl).0
 
-module _ (t : Option Tables) (u : List PairRow) (s : Snapshot) where
+module _ (t : Option Tables) (u : Gathered) (s : Snapshot) where
   entity_ascends : (e : Keyed) → Rises found_cmp (entity_found t u s e)
   entity_ascends e = (all_by (held_answer t u s e.0 (entity_of e.1)) e.0 (entity_of e.1) 0 all_rules refl).1
 
@@ -375,14 +375,14 @@ module _ (t : Option Tables) (u : List PairRow) (s : Snapshot) where
   flat-found = flat_map-map (λ c. c.1) (λ e. (e.0, entity_found t u s e)) (entities_in s.feed s.bytes)
 
 -- ---- feeds
-pub feed_ascends : (t : Option Tables) (u : List PairRow) (n b : Option Snapshot) → Rises found_cmp (feed_found t u n b)
+pub feed_ascends : (t : Option Tables) (u : Gathered) (n b : Option Snapshot) → Rises found_cmp (feed_found t u n b)
 feed_ascends t u None b = tt
 feed_ascends t u (Some s) b =
     subst (λ (xs : List Found). Rises found_cmp (head_found s b ++ xs)) (sym (flat-found t u s))
     (rises_parts found_cmp (λ x. IsOn s.feed x.place) (λ x. IsEntityOf s.feed x.place) (cmp_header s.feed) (head_found s b) (flat_map (entity_found t u s) (entities_in s.feed s.bytes))
     (head_on s b) (entities_at t u s s.feed (entities_in s.feed s.bytes) (entities_feed s.feed s.bytes)) (head_ascends s b) (entities_ascend t u s (entities_in s.feed s.bytes) (entities_rise s.feed s.bytes)))
 
-feed_at : (t : Option Tables) (u : List PairRow) (f : ℕ) (n b : Option Snapshot) → ((s : Snapshot) → n ≡ Some s → s.feed ≡ f) → Each (λ x. feed_of x.place ≡ f) (feed_found t u n b)
+feed_at : (t : Option Tables) (u : Gathered) (f : ℕ) (n b : Option Snapshot) → ((s : Snapshot) → n ≡ Some s → s.feed ≡ f) → Each (λ x. feed_of x.place ≡ f) (feed_found t u n b)
 feed_at t u f None b at = tt
 feed_at t u f (Some s) b at =
     subst (λ xs. Each (λ x. feed_of x.place ≡ f) (head_found s b ++ xs)) (sym (flat-found t u s))
@@ -396,8 +396,8 @@ feed_less x y l = less_then (nat_cmp (feed_of x.place) (feed_of y.place)) _ (nat
 pub findings_ascend : (t : Option Tables) (h : List Snapshot) → Rises found_cmp (findings t h)
 findings_ascend t h =
     subst (λ (xs : List Found). Rises found_cmp xs) (sym (findings-parts t h))
-    (rises_below found_cmp (λ x. feed_of x.place) feed_less (λ f. feed_found t (rows h) (now h f) (before h f))
-    (λ f. feed_ascends t (rows h) (now h f) (before h f)) (λ f. feed_at t (rows h) f (now h f) (before h f) (λ s e. now-feed h f s e)) feed_limit).0
+    (rises_below found_cmp (λ x. feed_of x.place) feed_less (λ f. feed_found t (gathered h) (now h f) (before h f))
+    (λ f. feed_ascends t (gathered h) (now h f) (before h f)) (λ f. feed_at t (gathered h) f (now h f) (before h f) (λ s e. now-feed h f s e)) feed_limit).0
 
 -- ---- rules at places that are in order are not the same
 pub spot_equal : (f g : Found) → same_spot f g ≡ true → found_cmp f g ≡ Equal

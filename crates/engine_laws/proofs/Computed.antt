@@ -10,7 +10,7 @@ use Rattle.rule_table.specs.Found.{Found}
 use Rattle.rule_table.specs.Groups.{Each}
 use Rattle.rule_history.specs.History.{Snapshot, Keyed, entities, entities_of_snapshot, below, feed_limit}
 use Rattle.rule_history.specs.Findings.{findings}
-use Rattle.rule_history.specs.Changed.{with, count_of, in_tested, in_paired, in_bounded, all_entities}
+use Rattle.rule_history.specs.Changed.{with, count_of, in_tested, in_paired, in_bounded, in_peaked, all_entities}
 use Rattle.rule_history.specs.Standing.{Standing, IsSince, stands, Spot, stands_after, same_spot, opened}
 use Rattle.engine_laws.specs.Computed.{since_of, standing, standings, delta_after, ListIsComputed, DeltaIsComputed, FirstIsNew}
 use Rattle.engine_laws.specs.Delta.{Delta}
@@ -103,22 +103,23 @@ pub list_is_computed : ListIsComputed
 list_is_computed = record { is_list = list_is; is_only = list_is_only }
 
 -- ---- the delta
-abbrev delta : ℕ → ℕ → List Standing → List Spot → ℕ → ℕ → ℕ → Delta
-delta n e os cs x y z = record { snapshot = n; entities = e; opened = os; closed = cs; tested = x; paired = y; bounded = z }
+abbrev delta : ℕ → ℕ → List Standing → List Spot → ℕ → ℕ → ℕ → ℕ → Delta
+delta n e os cs x y z w = record { snapshot = n; entities = e; opened = os; closed = cs; tested = x; paired = y; bounded = z; peaked = w }
 
-same_delta : (d e : Delta) → d.snapshot ≡ e.snapshot → d.entities ≡ e.entities → d.opened ≡ e.opened → d.closed ≡ e.closed → d.tested ≡ e.tested → d.paired ≡ e.paired → d.bounded ≡ e.bounded → d ≡ e
-same_delta d e a b c f g h i =
-    ap (λ n. delta n d.entities d.opened d.closed d.tested d.paired d.bounded) a
-    ∙ ap (λ n. delta e.snapshot n d.opened d.closed d.tested d.paired d.bounded) b
-    ∙ ap (λ os. delta e.snapshot e.entities os d.closed d.tested d.paired d.bounded) c
-    ∙ ap (λ cs. delta e.snapshot e.entities e.opened cs d.tested d.paired d.bounded) f
-    ∙ ap (λ n. delta e.snapshot e.entities e.opened e.closed n d.paired d.bounded) g
-    ∙ ap (λ n. delta e.snapshot e.entities e.opened e.closed e.tested n d.bounded) h
-    ∙ ap (λ n. delta e.snapshot e.entities e.opened e.closed e.tested e.paired n) i
+same_delta : (d e : Delta) → d.snapshot ≡ e.snapshot → d.entities ≡ e.entities → d.opened ≡ e.opened → d.closed ≡ e.closed → d.tested ≡ e.tested → d.paired ≡ e.paired → d.bounded ≡ e.bounded → d.peaked ≡ e.peaked → d ≡ e
+same_delta d e a b c f g h i j =
+    ap (λ n. delta n d.entities d.opened d.closed d.tested d.paired d.bounded d.peaked) a
+    ∙ ap (λ n. delta e.snapshot n d.opened d.closed d.tested d.paired d.bounded d.peaked) b
+    ∙ ap (λ os. delta e.snapshot e.entities os d.closed d.tested d.paired d.bounded d.peaked) c
+    ∙ ap (λ cs. delta e.snapshot e.entities e.opened cs d.tested d.paired d.bounded d.peaked) f
+    ∙ ap (λ n. delta e.snapshot e.entities e.opened e.closed n d.paired d.bounded d.peaked) g
+    ∙ ap (λ n. delta e.snapshot e.entities e.opened e.closed e.tested n d.bounded d.peaked) h
+    ∙ ap (λ n. delta e.snapshot e.entities e.opened e.closed e.tested e.paired n d.peaked) i
+    ∙ ap (λ n. delta e.snapshot e.entities e.opened e.closed e.tested e.paired e.bounded n) j
 
 pub delta_is_computed : DeltaIsComputed
 delta_is_computed t g s list d is owed =
-    same_delta d (delta_after t g s) owed.snapshot_is owed.entities_is (owed.opened_is ∙ ap (opened (findings t g)) (list_is_only t (with g s) list is)) owed.closed_is owed.tested_is owed.paired_is owed.bounded_is
+    same_delta d (delta_after t g s) owed.snapshot_is owed.entities_is (owed.opened_is ∙ ap (opened (findings t g)) (list_is_only t (with g s) list is)) owed.closed_is owed.tested_is owed.paired_is owed.bounded_is owed.peaked_is
 
 -- ---- the first snapshot
 count_all : (test : Keyed → Bool) (es : List Keyed) → Each (λ e. test e ≡ true) es → count_of test es ≡ length es
@@ -178,4 +179,5 @@ first_is_new = record {
   all_tested = λ s l. counts s l (in_tested [] s) (is_tested s l);
   all_paired = λ s l. counts s l (λ e. in_tested [] s e || in_paired [] s e) (λ e q. or_left (in_tested [] s e) (in_paired [] s e) (is_tested s l e q));
   all_bounded = λ t s l. counts s l (λ e. in_tested [] s e || in_bounded t [] s e) (λ e q. or_left (in_tested [] s e) (in_bounded t [] s e) (is_tested s l e q));
+  all_peaked = λ s l. counts s l (λ e. in_tested [] s e || in_peaked [] s e) (λ e q. or_left (in_tested [] s e) (in_peaked [] s e) (is_tested s l e q));
 }

@@ -7,6 +7,7 @@ pub mod AtHand
 pub mod Sorted
 pub mod Longer
 pub mod Ascending
+pub mod Peaking
 pub mod Next
 pub mod Seats
 pub mod Rows

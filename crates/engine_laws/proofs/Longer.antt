@@ -18,8 +18,8 @@ use Rattle.rule_table.specs.Judged.{head_found_all}
 use Rattle.rule_table.specs.Groups.{Each}
 use Rattle.rule_table.specs.GroupLaws.{each_append}
 use Rattle.rule_history.specs.History.{Snapshot, Keyed, recent, first_of, second_of, now, before, entities, entities_in, entities_of_snapshot, below, feed_limit}
-use Rattle.rule_table.specs.Answers.{heads_answer, entity_answer, rows_answer}
-use Rattle.rule_history.specs.Answered.{heads_of, timetable_answer, rows, payload_under, feed_answer, answer_under}
+use Rattle.rule_table.specs.Answers.{heads_answer, entity_answer, gathered_answer}
+use Rattle.rule_history.specs.Answered.{heads_of, timetable_answer, gathered, payload_under, feed_answer, answer_under}
 use Rattle.rule_history.specs.Findings.{findings, feed_findings, entity_findings}
 use Rattle.rule_history.specs.Changed.{with}
 use Rattle.engine_laws.specs.HeldFeeds.{head_found, held_answer, entity_found, entities_found, feed_found}
@@ -28,7 +28,7 @@ use Rattle.engine_laws.proofs.Sorted.{entities_rise, entities_feed, apart_rising
 use Rattle.engine_laws.proofs.AtHand.{heads_first, is_held, heads_limits}
 
 -- ---- the last snapshots of a feed
-recent-more : (h : List Snapshot) (s : Snapshot) (f : ℕ) → recent (with h s) f ≡ cond (s.feed == f) (s ∷ recent h f) (recent h f)
+pub recent-more : (h : List Snapshot) (s : Snapshot) (f : ℕ) → recent (with h s) f ≡ cond (s.feed == f) (s ∷ recent h f) (recent h f)
 recent-more h s f =
     ap reverse (filter-append (λ x. x.feed == f) h (s ∷ []))
     ∙ reverse-append (filter (λ x. x.feed == f) h) (filter (λ x. x.feed == f) (s ∷ []))
@@ -81,8 +81,8 @@ now_each P h f s all is = first_each P (recent h f) s (each_reversed P (filter (
 
 -- ---- answers by what is at hand
 feed-answer : (t : Option Tables) (h : List Snapshot) (f : ℕ) (s : Snapshot) → now h f ≡ Some s → (a : Ask) →
-    feed_answer t h f a ≡ option_or (heads_answer (heads_of s (before h f)) a) (option_or (timetable_answer t a) (rows_answer (rows h) a))
-feed-answer t h f s is a = ap (option_and_then (λ s. option_or (heads_answer (heads_of s (before h f)) a) (option_or (timetable_answer t a) (rows_answer (rows h) a)))) is
+    feed_answer t h f a ≡ option_or (heads_answer (heads_of s (before h f)) a) (option_or (timetable_answer t a) (gathered_answer (gathered h) a))
+feed-answer t h f s is a = ap (option_and_then (λ s. option_or (heads_answer (heads_of s (before h f)) a) (option_or (timetable_answer t a) (gathered_answer (gathered h) a)))) is
 
 -- ---- findings by what is at hand
 module _ (t : Option Tables) (h : List Snapshot) (f : ℕ) (s : Snapshot) (is : now h f ≡ Some s) where
@@ -94,39 +94,39 @@ module _ (t : Option Tables) (h : List Snapshot) (f : ℕ) (s : Snapshot) (is : 
       heads_same (feed_answer t h f) (heads_answer (heads_of s (before h f))) (λ a m. feed-answer t h f s is a ∙ heads_first (heads_of s (before h f)) _ a m) f all_rules refl
       ∙ ap (head_found_all all_rules (heads_answer (heads_of s (before h f)))) (sym at_feed)
 
-  pub entity-found : (e : Keyed) → e.0.feed ≡ s.feed → payload_under e.0 (entities_in s.feed s.bytes) ≡ Some e.1 → entity_findings t h e ≡ entity_found t (rows h) s e
+  pub entity-found : (e : Keyed) → e.0.feed ≡ s.feed → payload_under e.0 (entities_in s.feed s.bytes) ≡ Some e.1 → entity_findings t h e ≡ entity_found t (gathered h) s e
   entity-found e at under =
-      all_same is_held (answer_under t h e.0) (held_answer t (rows h) s e.0 (entity_of e.1)) agree all_rules refl e.0 (entity_of e.1)
+      all_same is_held (answer_under t h e.0) (held_answer t (gathered h) s e.0 (entity_of e.1)) agree all_rules refl e.0 (entity_of e.1)
     where
       there : payload_under e.0 (entities h e.0.feed) ≡ Some e.1
       there = ap (λ g. payload_under e.0 (entities h g)) (at ∙ at_feed) ∙ ap (λ n. payload_under e.0 (entities_of_snapshot n)) is ∙ under
 
-      agree : (a : Ask) → is_held (source_of a) ≡ true → answer_under t h e.0 a ≡ held_answer t (rows h) s e.0 (entity_of e.1) a
+      agree : (a : Ask) → is_held (source_of a) ≡ true → answer_under t h e.0 a ≡ held_answer t (gathered h) s e.0 (entity_of e.1) a
       agree a m =
           ap (option_and_then (λ p. option_or (entity_answer e.0 (entity_of p) a) (feed_answer t h e.0.feed a))) there
           ∙ ap (λ g. option_or (entity_answer e.0 (entity_of e.1) a) (feed_answer t h g a)) (at ∙ at_feed)
-          ∙ ap (option_or (entity_answer e.0 (entity_of e.1) a)) (feed-answer t h f s is a ∙ ap (λ x. option_or x (option_or (timetable_answer t a) (rows_answer (rows h) a))) (heads_limits s (before h f) a m))
+          ∙ ap (option_or (entity_answer e.0 (entity_of e.1) a)) (feed-answer t h f s is a ∙ ap (λ x. option_or x (option_or (timetable_answer t a) (gathered_answer (gathered h) a))) (heads_limits s (before h f) a m))
 
-  entities-found : flat_map (entity_findings t h) (entities h f) ≡ flat_map (λ c. c.1) (entities_found t (rows h) (Some s))
+  entities-found : flat_map (entity_findings t h) (entities h f) ≡ flat_map (λ c. c.1) (entities_found t (gathered h) (Some s))
   entities-found =
       ap (λ n. flat_map (entity_findings t h) (entities_of_snapshot n)) is
-      ∙ flat-same (entity_findings t h) (entity_found t (rows h) s) (entities_in s.feed s.bytes)
-      (each_two (λ e. e.0.feed ≡ s.feed) (λ e. payload_under e.0 (entities_in s.feed s.bytes) ≡ Some e.1) (λ e. entity_findings t h e ≡ entity_found t (rows h) s e) entity-found (entities_in s.feed s.bytes)
+      ∙ flat-same (entity_findings t h) (entity_found t (gathered h) s) (entities_in s.feed s.bytes)
+      (each_two (λ e. e.0.feed ≡ s.feed) (λ e. payload_under e.0 (entities_in s.feed s.bytes) ≡ Some e.1) (λ e. entity_findings t h e ≡ entity_found t (gathered h) s e) entity-found (entities_in s.feed s.bytes)
       (entities_feed s.feed s.bytes) (found_under (entities_in s.feed s.bytes) (apart_rising (entities_in s.feed s.bytes) (entities_rise s.feed s.bytes))))
-      ∙ sym (flat_map-map (λ c. c.1) (λ e. (e.0, entity_found t (rows h) s e)) (entities_in s.feed s.bytes))
+      ∙ sym (flat_map-map (λ c. c.1) (λ e. (e.0, entity_found t (gathered h) s e)) (entities_in s.feed s.bytes))
     where
       each_two : {A : Type 0} (P Q R : A → Type 0) → ((x : A) → P x → Q x → R x) → (xs : List A) → Each P xs → Each Q xs → Each R xs
       each_two P Q R w [] p q = tt
       each_two P Q R w (x ∷ xs) p q = (w x p.0 q.0, each_two P Q R w xs p.1 q.1)
 
-feed-found : (t : Option Tables) (h : List Snapshot) (f : ℕ) → feed_findings t h f (now h f) ≡ feed_found t (rows h) (now h f) (before h f)
+feed-found : (t : Option Tables) (h : List Snapshot) (f : ℕ) → feed_findings t h f (now h f) ≡ feed_found t (gathered h) (now h f) (before h f)
 feed-found t h f = go (now h f) refl
   where
-    go : (n : Option Snapshot) → now h f ≡ n → feed_findings t h f n ≡ feed_found t (rows h) n (before h f)
+    go : (n : Option Snapshot) → now h f ≡ n → feed_findings t h f n ≡ feed_found t (gathered h) n (before h f)
     go None is = refl
     go (Some s) is = both (head-found t h f s is) (entities-found t h f s is)
 
 -- the findings after a history are those on each feed's header, judged with the header before, and those at each of its
--- entities, judged with the header, the moment, the timetable and the rows of all entities
-pub findings-parts : (t : Option Tables) (h : List Snapshot) → findings t h ≡ below (λ f. feed_found t (rows h) (now h f) (before h f)) feed_limit
+-- entities, judged with the header, the moment, the timetable, the rows of all entities and the peaks
+pub findings-parts : (t : Option Tables) (h : List Snapshot) → findings t h ≡ below (λ f. feed_found t (gathered h) (now h f) (before h f)) feed_limit
 findings-parts t h = below-same _ _ feed_limit (λ f l. feed-found t h f)

@@ -2,6 +2,7 @@
 use Rattle.std.specs.Prelude.{◌≡◌, ℕ, ◌<◌, ◌==◌, Bool, true, false, cond, List, [], ◌∷◌, length, map, filter, Option, Some, None, unwrap_or, refl}
 use Rattle.std.specs.declared.cmp.Ordering.TheVariants.{Less}
 use Rattle.std.proofs.Common.{sym, ◌∙◌, ap, subst, eq-eqb}
+use Rattle.std.proofs.Math.Path.{fun_ext}
 use borrow.Author.Tests.{eqb-true}
 use Rattle.timetable.specs.Timetables.{Tables}
 use Rattle.rule_table.specs.declared.key.EntityKey.{EntityKey}
@@ -11,20 +12,24 @@ use Rattle.rule_table.specs.Order.{same_key}
 use Rattle.rule_table.specs.Found.{Found}
 use Rattle.rule_table.specs.Groups.{Each, IsOn}
 use Rattle.rule_table.specs.GroupLaws.{each_weaken}
+use Rattle.rule_table.specs.Answers.{Gathered}
+use Rattle.rule_table.specs.Peaks.{PeakMap}
 use Rattle.rule_table.specs.Pairs.{PairRow}
 use Rattle.rule_history.specs.History.{Snapshot, Keyed, now, before, entities, entities_in, entities_of_snapshot, below, feed_limit}
-use Rattle.rule_history.specs.Answered.{rows, rows_in}
+use Rattle.rule_history.specs.Answered.{rows, rows_in, gathered}
+use Rattle.rule_history.specs.Peaks.{peak, raised_by}
 use Rattle.rule_history.specs.Findings.{findings}
 use Rattle.rule_history.specs.Changed.{with}
 use Rattle.rule_history.specs.Standing.{Standing, opened, closed}
 use Rattle.engine_laws.specs.Order.{found_cmp, Rises}
-use Rattle.engine_laws.specs.HeldFeeds.{KeyedLists, HeldFeed, AreOn, AreUnder, AreApart, IsLastOf, IsOwn, KeyedFindings, found_list, AreFoundAt, header_found, list_under, joined, rows_held, head_found, entity_found, entities_found, renewed_lists, IsNext, opened_in, closed_in}
+use Rattle.engine_laws.specs.HeldFeeds.{KeyedLists, HeldFeed, AreOn, AreUnder, AreApart, IsLastOf, IsOwn, KeyedFindings, found_list, AreFoundAt, header_found, list_under, joined, no_feed, rows_held, gathered_held, head_found, entity_found, entities_found, renewed_lists, IsNext, opened_in, closed_in}
 use Rattle.engine_laws.specs.Standings.{findings_of, since_in, renewed, IsListOf}
 use Rattle.engine_laws.proofs.Apart.{having-header}
 use Rattle.engine_laws.proofs.Ascending.{head_ascends, head_on, entity_under, less_apart}
 use Rattle.engine_laws.proofs.Joined.{joined_renewed, opened_joined, closed_joined}
 use Rattle.engine_laws.proofs.Lists.{below-same, filter-all}
 use Rattle.engine_laws.proofs.Longer.{now-feed, now-other, now-same, before-other, before-same, findings-parts}
+use Rattle.engine_laws.proofs.Peaking.{peaks_raise, raised_same}
 use Rattle.engine_laws.proofs.Since.{findings-renewed, renewed-same, list_more}
 use Rattle.engine_laws.proofs.Sorted.{entities_rise, entities_feed, apart_rising}
 use Rattle.engine_laws.proofs.Spots.{spot_self, having}
@@ -43,15 +48,15 @@ renewed-itself (x ∷ xs) n h =
     cons2 h k = cc
 
 -- ---- findings by what is at hand are at their own places
-own_lists : (t : Option Tables) (u : List PairRow) (s : Snapshot) (es : List Keyed) → Each (λ c. AreUnder c.0 c.1) (map {B = EntityKey × List Found} (λ e. (e.0, entity_found t u s e)) es)
+own_lists : (t : Option Tables) (u : Gathered) (s : Snapshot) (es : List Keyed) → Each (λ c. AreUnder c.0 c.1) (map {B = EntityKey × List Found} (λ e. (e.0, entity_found t u s e)) es)
 own_lists t u s [] = tt
 own_lists t u s (e ∷ es) = (entity_under t u s e, own_lists t u s es)
 
-keyed_feeds : (t : Option Tables) (u : List PairRow) (s : Snapshot) (f : ℕ) (es : List Keyed) → Each (λ e. e.0.feed ≡ f) es → Each (λ c. c.0.feed ≡ f) (map {B = EntityKey × List Found} (λ e. (e.0, entity_found t u s e)) es)
+keyed_feeds : (t : Option Tables) (u : Gathered) (s : Snapshot) (f : ℕ) (es : List Keyed) → Each (λ e. e.0.feed ≡ f) es → Each (λ c. c.0.feed ≡ f) (map {B = EntityKey × List Found} (λ e. (e.0, entity_found t u s e)) es)
 keyed_feeds t u s f [] h = tt
 keyed_feeds t u s f (e ∷ es) h = (h.0, keyed_feeds t u s f es h.1)
 
-apart_lists : (t : Option Tables) (u : List PairRow) (s : Snapshot) (old : KeyedLists) (m : ℕ) (es : List Keyed) → AreApart es → AreApart (renewed_lists old m (map (λ e. (e.0, entity_found t u s e)) es))
+apart_lists : (t : Option Tables) (u : Gathered) (s : Snapshot) (old : KeyedLists) (m : ℕ) (es : List Keyed) → AreApart es → AreApart (renewed_lists old m (map (λ e. (e.0, entity_found t u s e)) es))
 apart_lists t u s old m [] h = tt
 apart_lists t u s old m (e ∷ es) h = (far es h.0, apart_lists t u s old m es h.1)
   where
@@ -59,7 +64,7 @@ apart_lists t u s old m (e ∷ es) h = (far es h.0, apart_lists t u s old m es h
     far [] k = tt
     far (d ∷ ds) k = (k.0, far ds k.1)
 
-pub found_own : (t : Option Tables) (u : List PairRow) (f : ℕ) (n b : Option Snapshot) → IsLastOf f n → AreFoundAt f (header_found n b) (entities_found t u n)
+pub found_own : (t : Option Tables) (u : Gathered) (f : ℕ) (n b : Option Snapshot) → IsLastOf f n → AreFoundAt f (header_found n b) (entities_found t u n)
 found_own t u f None b of = record { head_on = tt; under = tt; of_feed = tt }
 found_own t u f (Some s) b of = record {
   head_on = subst (λ g. AreOn g (head_found s b)) of (head_on s b);
@@ -67,7 +72,7 @@ found_own t u f (Some s) b of = record {
   of_feed = subst (λ g. Each (λ c. c.0.feed ≡ g) (entities_found t u (Some s))) of (keyed_feeds t u s s.feed (entities_in s.feed s.bytes) (entities_feed s.feed s.bytes));
 }
 
-apart_in : (t : Option Tables) (u : List PairRow) (n : Option Snapshot) (old : KeyedLists) (m : ℕ) → AreApart (renewed_lists old m (entities_found t u n))
+apart_in : (t : Option Tables) (u : Gathered) (n : Option Snapshot) (old : KeyedLists) (m : ℕ) → AreApart (renewed_lists old m (entities_found t u n))
 apart_in t u None old m = tt
 apart_in t u (Some s) old m = apart_lists t u s old m (entities_in s.feed s.bytes) (apart_rising (entities_in s.feed s.bytes) (entities_rise s.feed s.bytes))
 
@@ -80,7 +85,7 @@ feeds_renewed f old m [] h = tt
 feeds_renewed f old m (c ∷ keyed) h = (h.0, feeds_renewed f old m keyed h.1)
 
 -- a room whose lists are renewed from whatever lists
-own_renewed : (t : Option Tables) (u : List PairRow) (f : ℕ) (n b : Option Snapshot) (old : KeyedLists) (m : ℕ) (held : HeldFeed) → IsLastOf f n → held.last ≡ n → AreOn f (findings_of held.header) → held.entities ≡ renewed_lists old m (entities_found t u n) → IsOwn f held
+own_renewed : (t : Option Tables) (u : Gathered) (f : ℕ) (n b : Option Snapshot) (old : KeyedLists) (m : ℕ) (held : HeldFeed) → IsLastOf f n → held.last ≡ n → AreOn f (findings_of held.header) → held.entities ≡ renewed_lists old m (entities_found t u n) → IsOwn f held
 own_renewed t u f n b old m held of last on lists = record {
   last_of = subst (IsLastOf f) (sym last) of;
   head_on = on;
@@ -94,7 +99,8 @@ abbrev history_feed : Option Tables → List Snapshot → ℕ → HeldFeed
 history_feed t h f = record {
   last = now h f;
   header = renewed [] 0 (header_found (now h f) (before h f));
-  entities = renewed_lists [] 0 (entities_found t (rows h) (now h f));
+  entities = renewed_lists [] 0 (entities_found t (gathered h) (now h f));
+  peaks = peak h f;
 }
 
 pub last_now : (h : List Snapshot) (f : ℕ) → IsLastOf f (now h f)
@@ -106,11 +112,11 @@ last_now h f = go (now h f) refl
 
 history_own : (t : Option Tables) (h : List Snapshot) (f : ℕ) → IsOwn f (history_feed t h f)
 history_own t h f =
-    own_renewed t (rows h) f (now h f) (before h f) [] 0 (history_feed t h f) (last_now h f) refl
-    (subst (AreOn f) (sym (findings-renewed [] 0 (header_found (now h f) (before h f)))) (found_own t (rows h) f (now h f) (before h f) (last_now h f)).head_on) refl
+    own_renewed t (gathered h) f (now h f) (before h f) [] 0 (history_feed t h f) (last_now h f) refl
+    (subst (AreOn f) (sym (findings-renewed [] 0 (header_found (now h f) (before h f)))) (found_own t (gathered h) f (now h f) (before h f) (last_now h f)).head_on) refl
 
 abbrev empty_feed : ℕ → HeldFeed
-empty_feed f = record { last = None; header = []; entities = [] }
+empty_feed f = no_feed
 
 empty_own : (f : ℕ) → IsOwn f (empty_feed f)
 empty_own f = record { last_of = tt; head_on = tt; under_keys = tt; of_feed = tt; apart = tt }
@@ -118,9 +124,9 @@ empty_own f = record { last_of = tt; head_on = tt; under_keys = tt; of_feed = tt
 feeds-found : (t : Option Tables) (h : List Snapshot) → findings_of (joined (history_feed t h)) ≡ findings t h
 feeds-found t h =
     ap findings_of
-    (joined_renewed empty_feed empty_own 0 (history_feed t h) (λ f. header_found (now h f) (before h f)) (λ f. entities_found t (rows h) (now h f))
-    (λ f l. found_own t (rows h) f (now h f) (before h f) (last_now h f)) (λ f l. refl) (λ f l. refl))
-    ∙ findings-renewed (joined empty_feed) 0 (below (λ f. found_list (header_found (now h f) (before h f)) (entities_found t (rows h) (now h f))) feed_limit)
+    (joined_renewed empty_feed empty_own 0 (history_feed t h) (λ f. header_found (now h f) (before h f)) (λ f. entities_found t (gathered h) (now h f))
+    (λ f l. found_own t (gathered h) f (now h f) (before h f) (last_now h f)) (λ f l. refl) (λ f l. refl))
+    ∙ findings-renewed (joined empty_feed) 0 (below (λ f. found_list (header_found (now h f) (before h f)) (entities_found t (gathered h) (now h f))) feed_limit)
     ∙ sym (findings-parts t h)
 
 -- ---- what a list has on the header of a feed
@@ -167,6 +173,9 @@ header_ascends None b = tt
 header_ascends (Some s) b = head_ascends s b
 
 -- ---- one more snapshot
+pub gathered_same : {u v : List PairRow} {p q : PeakMap} → u ≡ v → p ≡ q → (let r : Gathered = record { rows = u; peaks = p } in r) ≡ (let r : Gathered = record { rows = v; peaks = q } in r)
+gathered_same {u} {v} {p} {q} h k = ap (λ w. let r : Gathered = record { rows = w; peaks = p } in r) h ∙ ap (λ w. let r : Gathered = record { rows = v; peaks = w } in r) k
+
 module _ (t : Option Tables) (applied : ℕ) (s : Snapshot) (old new : ℕ → HeldFeed) (home : (f : ℕ) → IsOwn f (old f)) (is : IsNext t applied s old new) where
   last_later : (f : ℕ) → IsLastOf f (new f).last
   last_later f =
@@ -175,7 +184,7 @@ module _ (t : Option Tables) (applied : ℕ) (s : Snapshot) (old new : ℕ → H
 
   -- the lists after it are at their own places too
   pub next_own : (f : ℕ) → IsOwn f (new f)
-  next_own f = own_renewed t (rows_held new) f (new f).last None (old f).entities applied (new f) (last_later f) refl on (is.entities f)
+  next_own f = own_renewed t (gathered_held new) f (new f).last None (old f).entities applied (new f) (last_later f) refl on (is.entities f)
     where
       on : AreOn f (findings_of (new f).header)
       on =
@@ -187,7 +196,8 @@ module _ (t : Option Tables) (applied : ℕ) (s : Snapshot) (old new : ℕ → H
             | false ↦ λ e. subst (λ xs. AreOn f (findings_of xs)) (sym (is.headers_stay f e)) (home f).head_on
           ] refl
 
-  module _ (h : List Snapshot) (number : applied ≡ length h) (listed : IsListOf t h (joined old)) (kept : (f : ℕ) → (old f).last ≡ now h f) where
+  module _ (h : List Snapshot) (number : applied ≡ length h) (found : findings_of (joined old) ≡ findings t h) (kept : (f : ℕ) → (old f).last ≡ now h f)
+      (peaks_kept : (f : ℕ) (vehicle : List ℕ) → (old f).peaks vehicle ≡ peak h f vehicle) where
     -- the last snapshots are those of the longer history
     pub next_last : (f : ℕ) → (new f).last ≡ now (with h s) f
     next_last f =
@@ -200,6 +210,18 @@ module _ (t : Option Tables) (applied : ℕ) (s : Snapshot) (old new : ℕ → H
     pub next_rows : rows_held new ≡ rows (with h s)
     next_rows = below-same (λ f. rows_in (entities_of_snapshot (new f).last)) (λ f. rows_in (entities (with h s) f)) feed_limit (λ f l. ap (λ n. rows_in (entities_of_snapshot n)) (next_last f))
 
+    pub next_peaks : (f : ℕ) (vehicle : List ℕ) → (new f).peaks vehicle ≡ peak (with h s) f vehicle
+    next_peaks f vehicle =
+        is.peaks f vehicle ∙
+        elim (s.feed == f) as (λ b. cond b (raised_by (old f).last (old f).peaks vehicle) ((old f).peaks vehicle) ≡ cond b (raised_by (now h f) (peak h f) vehicle) (peak h f vehicle)) [
+          | true ↦ ap (λ n. raised_by n (old f).peaks vehicle) (kept f) ∙ raised_same (now h f) (old f).peaks (peak h f) vehicle (peaks_kept f vehicle)
+          | false ↦ peaks_kept f vehicle
+        ]
+        ∙ sym (peaks_raise h s f vehicle)
+
+    next_gathered : gathered_held new ≡ gathered (with h s)
+    next_gathered = gathered_same next_rows (fun_ext (λ f. fun_ext (λ vehicle. next_peaks f vehicle)))
+
     next_header : (f : ℕ) → f < feed_limit → (new f).header ≡ renewed (old f).header applied (header_found (now (with h s) f) (before (with h s) f))
     next_header f l =
         elim (s.feed == f) as (λ b. (s.feed == f) ≡ b → (new f).header ≡ renewed (old f).header applied (header_found (now (with h s) f) (before (with h s) f))) [
@@ -208,28 +230,32 @@ module _ (t : Option Tables) (applied : ℕ) (s : Snapshot) (old new : ℕ → H
               ∙ ap (λ b. renewed (old f).header applied (header_found (Some s) b)) (kept f ∙ sym (before-same h s f e))
               ∙ ap (λ n. renewed (old f).header applied (header_found n (before (with h s) f))) (sym (now-same h s f e))
           | false ↦ λ e.
-              let stood : findings_of (old f).header ≡ header_found (now h f) (before h f) = header_stands t h old home listed.found f l in
+              let stood : findings_of (old f).header ≡ header_found (now h f) (before h f) = header_stands t h old home found f l in
               is.headers_stay f e
               ∙ sym (renewed-itself (old f).header applied (subst (λ (xs : List Found). Rises found_cmp xs) (sym stood) (header_ascends (now h f) (before h f))))
               ∙ ap (renewed (old f).header applied) (stood ∙ ap (λ n. header_found n (before h f)) (sym (now-other h s f e)) ∙ ap (header_found (now (with h s) f)) (sym (before-other h s f e)))
         ] refl
 
-    next_lists : (f : ℕ) → (new f).entities ≡ renewed_lists (old f).entities applied (entities_found t (rows (with h s)) (now (with h s) f))
-    next_lists f = is.entities f ∙ ap (λ u. renewed_lists (old f).entities applied (entities_found t u (new f).last)) next_rows ∙ ap (λ n. renewed_lists (old f).entities applied (entities_found t (rows (with h s)) n)) (next_last f)
+    next_lists : (f : ℕ) → (new f).entities ≡ renewed_lists (old f).entities applied (entities_found t (gathered (with h s)) (now (with h s) f))
+    next_lists f = is.entities f ∙ ap (λ u. renewed_lists (old f).entities applied (entities_found t u (new f).last)) next_gathered ∙ ap (λ n. renewed_lists (old f).entities applied (entities_found t (gathered (with h s)) n)) (next_last f)
 
-    -- all lists joined are the findings of the longer history, with their numbers
-    pub next_listed : IsListOf t (with h s) (joined new)
-    next_listed =
-        subst (IsListOf t (with h s))
-        (ap (λ n. renewed (joined old) n (findings t (with h s))) (sym number)
+    -- all lists joined are the findings of the longer history, with their numbers in the lists before
+    pub next_renewed : joined new ≡ renewed (joined old) (length h) (findings t (with h s))
+    next_renewed =
+        sym (ap (λ n. renewed (joined old) n (findings t (with h s))) (sym number)
         ∙ ap (renewed (joined old) applied) (findings-parts t (with h s))
-        ∙ sym (joined_renewed old home applied new (λ f. header_found (now (with h s) f) (before (with h s) f)) (λ f. entities_found t (rows (with h s)) (now (with h s) f))
-        (λ f l. found_own t (rows (with h s)) f (now (with h s) f) (before (with h s) f) (last_now (with h s) f)) next_header (λ f l. next_lists f)))
-        (list_more t h s (joined old) listed)
+        ∙ sym (joined_renewed old home applied new (λ f. header_found (now (with h s) f) (before (with h s) f)) (λ f. entities_found t (gathered (with h s)) (now (with h s) f))
+        (λ f l. found_own t (gathered (with h s)) f (now (with h s) f) (before (with h s) f) (last_now (with h s) f)) next_header (λ f l. next_lists f)))
+
+    pub next_found : findings_of (joined new) ≡ findings t (with h s)
+    next_found = ap findings_of next_renewed ∙ findings-renewed (joined old) (length h) (findings t (with h s))
+
+    pub next_listed : IsListOf t h (joined old) → IsListOf t (with h s) (joined new)
+    next_listed listed = subst (IsListOf t (with h s)) (sym next_renewed) (list_more t h s (joined old) listed)
 
     -- what opened and closed list by list is what opened and closed
     pub next_opened : below (λ f. opened_in (old f) (new f)) feed_limit ≡ opened (findings t h) (joined new)
-    next_opened = sym (opened_joined old home new next_own) ∙ ap (λ fs. opened fs (joined new)) listed.found
+    next_opened = sym (opened_joined old home new next_own) ∙ ap (λ fs. opened fs (joined new)) found
 
     pub next_closed : below (λ f. closed_in (old f) (new f)) feed_limit ≡ closed (findings t h) (findings t (with h s))
-    next_closed = sym (closed_joined old home new next_own) ∙ ap (λ fs. closed fs (findings_of (joined new))) listed.found ∙ ap (closed (findings t h)) next_listed.found
+    next_closed = sym (closed_joined old home new next_own) ∙ ap (λ fs. closed fs (findings_of (joined new))) found ∙ ap (closed (findings t h)) next_found

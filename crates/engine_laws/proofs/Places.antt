@@ -1,12 +1,12 @@
 -- A list of feeds, against what is held of each.
-use Rattle.std.specs.Prelude.{◌≡◌, ℕ, zero, suc, ◌≤◌, List, [], ◌∷◌, ◌++◌, map, get_or, length, Option, None, refl, ◌⊎◌}
+use Rattle.std.specs.Prelude.{◌≡◌, ℕ, zero, suc, ◌≤◌, List, [], ◌∷◌, ◌++◌, map, get_or, length, Option, refl, ◌⊎◌}
 use Rattle.std.specs.List.{flat_map}
 use Rattle.std.proofs.Common.{inl, inr, sym, ◌∙◌, ap, arith, append-nil, append_assoc}
 use Rattle.std.proofs.Math.Nat.{eq-or-lt_of_le}
 use Rattle.std.proofs.lemmas.List.{get_or_past}
 use Rattle.timetable.specs.Timetables.{Tables}
 use Rattle.rule_history.specs.History.{below, feed_limit}
-use Rattle.engine_laws.specs.HeldFeeds.{HeldFeed, feed_list, feed_at, data_of, IsJoined}
+use Rattle.engine_laws.specs.HeldFeeds.{HeldFeed, feed_list, no_feed, feed_at, data_of, IsJoined}
 
 -- parts past n are empty
 pub below-more : {A : Type 0} (part : ℕ → List A) (m n : ℕ) → n ≤ m → ((g : ℕ) → n ≤ g → part g ≡ []) → below part m ≡ below part n
@@ -41,11 +41,9 @@ get_or-map f [] g d = refl
 get_or-map f (x ∷ xs) zero d = refl
 get_or-map f (x ∷ xs) (suc g) d = get_or-map f xs g d
 
-abbrev nothing : HeldFeed
-nothing = record { last = None; header = []; entities = [] }
-
 pub data_are_joined : (t : Option Tables) (applied : ℕ) (list : List HeldFeed) → length list ≤ feed_limit → IsJoined (data_of t applied list) (feed_at list)
 data_are_joined t applied list few = record {
-  last_is = λ f. get_or-map (λ (held : HeldFeed). held.last) list f nothing;
-  list_is = flat-below feed_list list nothing refl few;
+  last_is = λ f. get_or-map (λ (held : HeldFeed). held.last) list f no_feed;
+  peaks_are = λ f vehicle. refl;
+  list_is = flat-below feed_list list no_feed refl few;
 }

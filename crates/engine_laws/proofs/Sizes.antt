@@ -16,18 +16,20 @@ use Rattle.rule_table.specs.Order.{same_key}
 use Rattle.rule_table.specs.Found.{Found}
 use Rattle.rule_table.specs.Groups.{Each, IsUnder}
 use Rattle.rule_table.specs.Pairs.{rows_of}
+use Rattle.rule_table.specs.Peaks.{vehicle_id_of}
 use Rattle.rule_history.specs.History.{Snapshot, Keyed, now, entities, entities_in, entities_of_snapshot, below, feed_limit}
 use Rattle.rule_history.specs.Answered.{rows, rows_in}
 use Rattle.rule_history.specs.Findings.{findings}
-use Rattle.rule_history.specs.Changed.{with, is_paired, keeps_bounds, count_of, tested, paired, bounded, in_tested, in_bounded, all_entities, is_under, is_bound_at, has_bound}
+use Rattle.rule_history.specs.Peaks.{FeedPeaks, peak}
+use Rattle.rule_history.specs.Changed.{with, is_paired, keeps_bounds, same_natural, has_moved, count_of, tested, paired, bounded, peaked, in_tested, in_bounded, in_peaked, all_entities, is_under, is_bound_at, has_bound}
 use Rattle.rule_history.specs.Standing.{Standing}
-use Rattle.engine_laws.specs.Delta.{Delta, IsDelta, IsChange, AreCounts, is_other, has_limit, is_new, is_limited, tested_held, paired_held, bounded_held}
+use Rattle.engine_laws.specs.Delta.{Delta, IsDelta, IsChange, AreCounts, is_other, has_limit, is_new, is_limited, is_moved, tested_held, paired_held, bounded_held, peaked_held}
 use Rattle.engine_laws.specs.HeldFeeds.{KeyedLists, HeldFeed, AreUnder, IsLastOf, IsOwn, list_under, joined, rows_held, IsNext}
-use Rattle.engine_laws.specs.Standings.{findings_of, IsListOf}
+use Rattle.engine_laws.specs.Standings.{findings_of}
 use Rattle.engine_laws.proofs.Apart.{having-entity}
 use Rattle.engine_laws.proofs.Lists.{below-same}
 use Rattle.engine_laws.proofs.Longer.{now-same}
-use Rattle.engine_laws.proofs.Next.{last_now, next_own, next_last, next_rows, next_listed, next_opened, next_closed}
+use Rattle.engine_laws.proofs.Next.{last_now, next_own, next_last, next_rows, next_peaks, next_found, next_opened, next_closed}
 use Rattle.engine_laws.proofs.Sorted.{entities_feed}
 use Rattle.engine_laws.proofs.Spots.{key_is, any-having, is_some_one, key_self}
 
@@ -139,9 +141,15 @@ bound_in t h feeds home e key f at l =
     ∙ ap (λ n. list_any (is_bound_at key) (findings_of (list_under key (feeds n).entities))) at
     ∙ any_bound key (list_under key (feeds f).entities) (list_own key (feeds f).entities (home f).under_keys)
 
+-- ---- peaks
+moved_same : (a b c d : FeedPeaks) → ((v : List ℕ) → a v ≡ c v) → ((v : List ℕ) → b v ≡ d v) → (given : Option (List ℕ)) → has_moved a b given ≡ has_moved c d given
+moved_same a b c d h k None = refl
+moved_same a b c d h k (Some v) = ap (λ x. not (same_natural x (b v))) (h v) ∙ ap (λ x. not (same_natural (c v) x)) (k v)
+
 -- ---- one more snapshot
 module _ (t : Option Tables) (applied : ℕ) (s : Snapshot) (old new : ℕ → HeldFeed) (home : (f : ℕ) → IsOwn f (old f)) (is : IsNext t applied s old new)
-    (g : List Snapshot) (number : applied ≡ length g) (listed : IsListOf t g (joined old)) (kept : (f : ℕ) → (old f).last ≡ now g f) where
+    (g : List Snapshot) (number : applied ≡ length g) (found : findings_of (joined old) ≡ findings t g) (kept : (f : ℕ) → (old f).last ≡ now g f)
+    (peaks_kept : (f : ℕ) (vehicle : List ℕ) → (old f).peaks vehicle ≡ peak g f vehicle) where
   same_self : (s.feed == s.feed) ≡ true
   same_self = eq-eqb s.feed s.feed refl
 
@@ -172,7 +180,7 @@ module _ (t : Option Tables) (applied : ℕ) (s : Snapshot) (old new : ℕ → H
       ∙ ap (count_of (is_new (old s.feed))) now_is
 
   next_entities : below (λ f. entities_of_snapshot (new f).last) feed_limit ≡ all_entities (with g s)
-  next_entities = below-same (λ f. entities_of_snapshot (new f).last) (entities (with g s)) feed_limit (λ f l. ap entities_of_snapshot (next_last t applied s old new home is g number listed kept f))
+  next_entities = below-same (λ f. entities_of_snapshot (new f).last) (entities (with g s)) feed_limit (λ f l. ap entities_of_snapshot (next_last t applied s old new home is g number found kept peaks_kept f))
 
   old_rows : rows_held old ≡ rows g
   old_rows = below-same (λ f. rows_in (entities_of_snapshot (old f).last)) (λ f. rows_in (entities g f)) feed_limit (λ f l. ap (λ n. rows_in (entities_of_snapshot n)) (kept f))
@@ -181,7 +189,7 @@ module _ (t : Option Tables) (applied : ℕ) (s : Snapshot) (old new : ℕ → H
   paired_size =
       ap (λ n. count_of (λ e. (e.0.feed == s.feed && is_other (entities_of_snapshot n) e) || is_paired (rows g) (rows (with g s)) (rows_of e.0 (entity_of e.1))) (all_entities (with g s))) (sym (kept s.feed))
       ∙ ap (λ u. count_of (λ e. (e.0.feed == s.feed && is_new (old s.feed) e) || is_paired u (rows (with g s)) (rows_of e.0 (entity_of e.1))) (all_entities (with g s))) (sym old_rows)
-      ∙ ap (λ u. count_of (λ e. (e.0.feed == s.feed && is_new (old s.feed) e) || is_paired (rows_held old) u (rows_of e.0 (entity_of e.1))) (all_entities (with g s))) (sym (next_rows t applied s old new home is g number listed kept))
+      ∙ ap (λ u. count_of (λ e. (e.0.feed == s.feed && is_new (old s.feed) e) || is_paired (rows_held old) u (rows_of e.0 (entity_of e.1))) (all_entities (with g s))) (sym (next_rows t applied s old new home is g number found kept peaks_kept))
       ∙ ap (count_of (λ e. (e.0.feed == s.feed && is_new (old s.feed) e) || is_paired (rows_held old) (rows_held new) (rows_of e.0 (entity_of e.1)))) (sym next_entities)
 
   bounded_there : (e : Keyed) → e.0.feed ≡ s.feed → (in_tested g s e || in_bounded t g s e) ≡ (is_new (old s.feed) e || is_limited s (old s.feed) (new s.feed) e)
@@ -189,9 +197,9 @@ module _ (t : Option Tables) (applied : ℕ) (s : Snapshot) (old new : ℕ → H
       ors (in_tested g s e) (is_new (old s.feed) e) (in_bounded t g s e) (is_limited s (old s.feed) (new s.feed) e) (tested_there e q)
       (three (e.0.feed == s.feed) (not (keeps_bounds s (now g s.feed))) (has_bound t g e.0 || has_bound t (with g s) e.0) (at_feed e q)
       ∙ ap (λ n. not (keeps_bounds s n) && (has_bound t g e.0 || has_bound t (with g s) e.0)) (sym (kept s.feed))
-      ∙ ap (λ b. not (keeps_bounds s (old s.feed).last) && (b || has_bound t (with g s) e.0)) (bound_in t g old home listed.found e.0 s.feed q is.feed)
+      ∙ ap (λ b. not (keeps_bounds s (old s.feed).last) && (b || has_bound t (with g s) e.0)) (bound_in t g old home found e.0 s.feed q is.feed)
       ∙ ap (λ b. not (keeps_bounds s (old s.feed).last) && (has_limit (list_under e.0 (old s.feed).entities) || b))
-      (bound_in t (with g s) new (next_own t applied s old new home is) (next_listed t applied s old new home is g number listed kept).found e.0 s.feed q is.feed))
+      (bound_in t (with g s) new (next_own t applied s old new home is) (next_found t applied s old new home is g number found kept peaks_kept) e.0 s.feed q is.feed))
     where
       ors : (a b c d : Bool) → a ≡ b → c ≡ d → (a || c) ≡ (b || d)
       ors a b c d h k = cc
@@ -214,17 +222,40 @@ module _ (t : Option Tables) (applied : ℕ) (s : Snapshot) (old new : ℕ → H
       (entities (with g s)) (entities_at (with g s)) feed_limit is.feed
       ∙ ap (count_of (λ e. is_new (old s.feed) e || is_limited s (old s.feed) (new s.feed) e)) now_is
 
+  moved_there : (e : Keyed) → e.0.feed ≡ s.feed → (in_tested g s e || in_peaked g s e) ≡ (is_new (old s.feed) e || is_moved (old s.feed) (new s.feed) e)
+  moved_there e q =
+      ors (in_tested g s e) (is_new (old s.feed) e) (in_peaked g s e) (is_moved (old s.feed) (new s.feed) e) (tested_there e q)
+      (ands (e.0.feed == s.feed) (has_moved (peak g s.feed) (peak (with g s) s.feed) (vehicle_id_of (entity_of e.1))) (at_feed e q)
+      ∙ moved_same (peak g s.feed) (peak (with g s) s.feed) (old s.feed).peaks (new s.feed).peaks (λ v. sym (peaks_kept s.feed v)) (λ v. sym (next_peaks t applied s old new home is g number found kept peaks_kept s.feed v))
+      (vehicle_id_of (entity_of e.1)))
+    where
+      ors : (a b c d : Bool) → a ≡ b → c ≡ d → (a || c) ≡ (b || d)
+      ors a b c d h k = cc
+
+  moved_else : (e : Keyed) → (e.0.feed == s.feed) ≡ false → (in_tested g s e || in_peaked g s e) ≡ false
+  moved_else e q = neither (in_tested g s e) (in_peaked g s e) (tested_else e q) (and_false (e.0.feed == s.feed) (has_moved (peak g s.feed) (peak (with g s) s.feed) (vehicle_id_of (entity_of e.1))) q)
+    where
+      neither : (a b : Bool) → a ≡ false → b ≡ false → (a || b) ≡ false
+      neither a b h k = cc
+
+  pub peaked_size : peaked g s ≡ peaked_held s old new
+  peaked_size =
+      count_one s.feed (λ e. in_tested g s e || in_peaked g s e) (λ e. is_new (old s.feed) e || is_moved (old s.feed) (new s.feed) e) moved_there moved_else
+      (entities (with g s)) (entities_at (with g s)) feed_limit is.feed
+      ∙ ap (count_of (λ e. is_new (old s.feed) e || is_moved (old s.feed) (new s.feed) e)) now_is
+
   pub counts_are : AreCounts t g s old new
-  counts_are = record { tested_is = tested_size; paired_is = paired_size; bounded_is = bounded_size }
+  counts_are = record { tested_is = tested_size; paired_is = paired_size; bounded_is = bounded_size; peaked_is = peaked_size }
 
   -- what is owed of a delta makes it what the snapshot changes
   pub change_is : (d : Delta) → IsChange applied s old new d → IsDelta t g s (joined new) d
   change_is d c = record {
     snapshot_is = c.snapshot_is ∙ number;
     entities_is = c.entities_is;
-    opened_is = c.opened_is ∙ next_opened t applied s old new home is g number listed kept;
-    closed_is = c.closed_is ∙ next_closed t applied s old new home is g number listed kept;
+    opened_is = c.opened_is ∙ next_opened t applied s old new home is g number found kept peaks_kept;
+    closed_is = c.closed_is ∙ next_closed t applied s old new home is g number found kept peaks_kept;
     tested_is = c.tested_is ∙ sym tested_size;
     paired_is = c.paired_is ∙ sym paired_size;
     bounded_is = c.bounded_is ∙ sym bounded_size;
+    peaked_is = c.peaked_is ∙ sym peaked_size;
   }

@@ -6,7 +6,7 @@ use Rattle.timetable.specs.Timetables.{Tables}
 use Rattle.rule_table.specs.Found.{Found}
 use Rattle.rule_history.specs.History.{Snapshot, feed_limit}
 use Rattle.rule_history.specs.Findings.{findings}
-use Rattle.rule_history.specs.Changed.{with, tested, paired, bounded}
+use Rattle.rule_history.specs.Changed.{with, tested, paired, bounded, peaked}
 use Rattle.rule_history.specs.Standing.{Standing, stands_after, opened, closed}
 use Rattle.engine_laws.specs.Delta.{Delta, IsDelta}
 use Rattle.engine_laws.specs.Standings.{IsListOf}
@@ -33,6 +33,7 @@ delta_after t g s = record {
   tested = tested g s;
   paired = paired g s;
   bounded = bounded t g s;
+  peaked = peaked g s;
 }
 
 -- ---- laws
@@ -50,3 +51,4 @@ pub record FirstIsNew : Type 0 where
   pub all_tested : (s : Snapshot) → s.feed < feed_limit → tested [] s ≡ length (entity_payloads s.bytes)
   pub all_paired : (s : Snapshot) → s.feed < feed_limit → paired [] s ≡ length (entity_payloads s.bytes)
   pub all_bounded : (t : Option Tables) (s : Snapshot) → s.feed < feed_limit → bounded t [] s ≡ length (entity_payloads s.bytes)
+  pub all_peaked : (s : Snapshot) → s.feed < feed_limit → peaked [] s ≡ length (entity_payloads s.bytes)

@@ -15,9 +15,11 @@ use Rattle.rule_table.specs.Found.{Found}
 use Rattle.rule_table.specs.Groups.{Each, IsOn, IsUnder}
 use Rattle.rule_table.specs.Judged.{found_all, head_found_all}
 use Rattle.rule_table.specs.Pairs.{PairRow}
+use Rattle.rule_table.specs.Peaks.{PeakMap}
 use Rattle.rule_history.specs.History.{Snapshot, Keyed, entities_in, entities_of_snapshot, below, feed_limit}
-use Rattle.rule_table.specs.Answers.{entity_answer, heads_answer, rows_answer, limit_answer}
+use Rattle.rule_table.specs.Answers.{Gathered, entity_answer, heads_answer, gathered_answer, limit_answer}
 use Rattle.rule_history.specs.Answered.{timetable_answer, heads_of, rows_in}
+use Rattle.rule_history.specs.Peaks.{FeedPeaks, raised_by}
 use Rattle.rule_history.specs.Standing.{Standing, Spot, opened, closed}
 use Rattle.engine_laws.specs.Standings.{Held, findings_of, renewed}
 
@@ -26,11 +28,12 @@ use Rattle.engine_laws.specs.Standings.{Held, findings_of, renewed}
 abbrev pub KeyedLists : Type 0
 KeyedLists = List (EntityKey × List Standing)
 
--- its last snapshot, the standings on its header, and those at each of its entities
+-- its last snapshot, the standings on its header, those at each of its entities, and the peaks of its vehicles
 pub record HeldFeed : Type 0 where
   pub last : Option Snapshot
   pub header : List Standing
   pub entities : KeyedLists
+  pub peaks : FeedPeaks
 
 abbrev pub list_under : EntityKey → KeyedLists → List Standing
 list_under key lists = unwrap_or (option_map (λ c. c.1) (find (λ c. same_key c.0 key) lists)) []
@@ -70,23 +73,32 @@ pub record IsOwn (f : ℕ) (held : HeldFeed) : Type 0 where
 abbrev pub AreOwn : (ℕ → HeldFeed) → Type 0
 AreOwn feeds = (f : ℕ) → IsOwn f (feeds f)
 
--- plain data is what is held of all feeds: the last snapshot of each, and their lists joined
+-- plain data is what is held of all feeds: the last snapshot and the peaks of each, and their lists joined
 pub record IsJoined (e : Held) (feeds : ℕ → HeldFeed) : Type 0 where
   pub last_is : (f : ℕ) → get_or e.last f None ≡ (feeds f).last
+  pub peaks_are : (f : ℕ) (vehicle : List ℕ) → e.peaks f vehicle ≡ (feeds f).peaks vehicle
   pub list_is : e.list ≡ joined feeds
+
+-- a feed of which nothing is held
+abbrev pub no_feed : HeldFeed
+no_feed = record { last = None; header = []; entities = []; peaks = λ vehicle. None }
 
 -- where a list holds the feeds, each at the place of its number, a feed past its end has nothing
 abbrev pub feed_at : List HeldFeed → ℕ → HeldFeed
-feed_at list f = get_or list f (record { last = None; header = []; entities = [] })
+feed_at list f = get_or list f no_feed
 
 -- its plain data, with a timetable and a number
 abbrev pub data_of : Option Tables → ℕ → List HeldFeed → Held
-data_of t applied list = record { table = t; applied = applied; last = map (λ held. held.last) list; list = flat_map feed_list list }
+data_of t applied list = record { table = t; applied = applied; last = map (λ held. held.last) list; peaks = λ f. (feed_at list f).peaks; list = flat_map feed_list list }
 
 -- ---- what is found by what is held
 -- the pairing rows of all feeds
 abbrev pub rows_held : (ℕ → HeldFeed) → List PairRow
 rows_held feeds = below (λ f. rows_in (entities_of_snapshot (feeds f).last)) feed_limit
+
+-- with their peaks
+abbrev pub gathered_held : (ℕ → HeldFeed) → Gathered
+gathered_held feeds = record { rows = rows_held feeds; peaks = λ f. (feeds f).peaks }
 
 -- on the header of a snapshot, with the snapshot of its feed before it
 abbrev pub head_found : Snapshot → Option Snapshot → List Found
@@ -97,12 +109,12 @@ abbrev pub header_found : Option Snapshot → Option Snapshot → List Found
 header_found None before = []
 header_found (Some s) before = head_found s before
 
--- what is answered at an entity of a snapshot: by the entity, the snapshot's header and moment, the timetable and the rows
-abbrev pub held_answer : Option Tables → List PairRow → Snapshot → EntityKey → Value entity → Ask → Option CellValue
+-- what is answered at an entity of a snapshot: by the entity, the snapshot's header and moment, the timetable, the rows and the peaks
+abbrev pub held_answer : Option Tables → Gathered → Snapshot → EntityKey → Value entity → Ask → Option CellValue
 held_answer t u s key e a =
-    option_or (entity_answer key e a) (option_or (limit_answer (timestamp_of (header_of s.bytes)) s.moment a) (option_or (timetable_answer t a) (rows_answer u a)))
+    option_or (entity_answer key e a) (option_or (limit_answer (timestamp_of (header_of s.bytes)) s.moment a) (option_or (timetable_answer t a) (gathered_answer u a)))
 
-abbrev pub entity_found : Option Tables → List PairRow → Snapshot → Keyed → List Found
+abbrev pub entity_found : Option Tables → Gathered → Snapshot → Keyed → List Found
 entity_found t u s e = found_all all_rules (held_answer t u s e.0 (entity_of e.1)) e.0 (entity_of e.1)
 
 -- findings under the keys of entities
@@ -110,7 +122,7 @@ abbrev pub KeyedFindings : Type 0
 KeyedFindings = List (EntityKey × List Found)
 
 -- at each entity of a feed's last snapshot, under its key
-abbrev pub entities_found : Option Tables → List PairRow → Option Snapshot → KeyedFindings
+abbrev pub entities_found : Option Tables → Gathered → Option Snapshot → KeyedFindings
 entities_found t u None = []
 entities_found t u (Some s) = map (λ e. (e.0, entity_found t u s e)) (entities_in s.feed s.bytes)
 
@@ -118,7 +130,7 @@ entities_found t u (Some s) = map (λ e. (e.0, entity_found t u s e)) (entities_
 abbrev pub found_list : List Found → KeyedFindings → List Found
 found_list header keyed = header ++ flat_map (λ c. c.1) keyed
 
-abbrev pub feed_found : Option Tables → List PairRow → Option Snapshot → Option Snapshot → List Found
+abbrev pub feed_found : Option Tables → Gathered → Option Snapshot → Option Snapshot → List Found
 feed_found t u last before = found_list (header_found last before) (entities_found t u last)
 
 -- findings are on the header of a feed, or at the entity under whose key they are
@@ -141,8 +153,10 @@ pub record IsNext (t : Option Tables) (applied : ℕ) (s : Snapshot) (old new : 
   pub header : (new s.feed).header ≡ renewed (old s.feed).header applied (head_found s (old s.feed).last)
   -- on the headers of other feeds all stays as it is
   pub headers_stay : (f : ℕ) → (s.feed == f) ≡ false → (new f).header ≡ (old f).header
-  -- each entity of each feed is judged with the rows as they are now
-  pub entities : (f : ℕ) → (new f).entities ≡ renewed_lists (old f).entities applied (entities_found t (rows_held new) (new f).last)
+  -- the peaks of its vehicles are those with the one before it, and the other feeds have theirs
+  pub peaks : (f : ℕ) (vehicle : List ℕ) → (new f).peaks vehicle ≡ (if s.feed == f then raised_by (old f).last (old f).peaks vehicle else (old f).peaks vehicle)
+  -- each entity of each feed is judged with the rows and peaks as they are now
+  pub entities : (f : ℕ) → (new f).entities ≡ renewed_lists (old f).entities applied (entities_found t (gathered_held new) (new f).last)
 
 -- ---- The same as one answer: what is held of each feed once a snapshot s was taken.
 -- the last snapshot of a feed then
@@ -153,11 +167,19 @@ last_after s old f = if s.feed == f then Some s else (old f).last
 abbrev pub rows_after : Snapshot → (ℕ → HeldFeed) → List PairRow
 rows_after s old = below (λ f. rows_in (entities_of_snapshot (last_after s old f))) feed_limit
 
+-- the peaks of a feed then
+abbrev pub peaks_after : Snapshot → (ℕ → HeldFeed) → PeakMap
+peaks_after s old f vehicle = if s.feed == f then raised_by (old f).last (old f).peaks vehicle else (old f).peaks vehicle
+
+abbrev pub gathered_after : Snapshot → (ℕ → HeldFeed) → Gathered
+gathered_after s old = record { rows = rows_after s old; peaks = peaks_after s old }
+
 abbrev pub held_after : Option Tables → ℕ → Snapshot → (ℕ → HeldFeed) → ℕ → HeldFeed
 held_after t applied s old f = record {
   last = last_after s old f;
   header = if s.feed == f then renewed (old f).header applied (head_found s (old f).last) else (old f).header;
-  entities = renewed_lists (old f).entities applied (entities_found t (rows_after s old) (last_after s old f));
+  entities = renewed_lists (old f).entities applied (entities_found t (gathered_after s old) (last_after s old f));
+  peaks = peaks_after s old f;
 }
 
 -- ---- what a snapshot opens and closes, header by header and entity by entity

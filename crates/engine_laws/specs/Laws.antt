@@ -1,5 +1,5 @@
 -- Laws of what stands over a history, for every timetable and every history.
-use Rattle.std.specs.Prelude.{◌≡◌, ℕ, ◌+◌, ◌<◌, ◌≤◌, ◌==◌, Bool, true, false, List, [], filter, get_or, length, Option, Some, None}
+use Rattle.std.specs.Prelude.{◌≡◌, ℕ, ◌+◌, ◌<◌, ◌≤◌, ◌==◌, Bool, true, false, List, [], filter, get_or, length, Option, Some, None, if◌then◌else◌}
 use Rattle.std.specs.List.{list_any}
 use Rattle.timetable.specs.Timetables.{Tables}
 use Rattle.rule_table.specs.Table.{all_rules}
@@ -7,21 +7,23 @@ use Rattle.rule_table.specs.Found.{Found}
 use Rattle.rule_table.specs.Judged.{head_found_all}
 use Rattle.rule_table.specs.Pairs.{PairRow, rows_of, shares}
 use Rattle.rule_table.specs.PairAgree.{Agree, AgreeOnRow}
+use Rattle.rule_table.specs.Peaks.{PeakMap, SamePeak}
 use Rattle.rule_table.specs.declared.key.EntityKey.{EntityKey}
 use Rattle.feed_values.specs.Schema.{Value}
 use Rattle.feed_values.specs.Messages.{entity}
 use Rattle.feed_values.specs.Snapshot.{entity_of}
 use Rattle.rule_history.specs.History.{Snapshot, Keyed, entities, entities_of_snapshot, now, before, below, feed_limit}
-use Rattle.rule_history.specs.Answered.{rows, payload_under, feed_answer}
+use Rattle.rule_history.specs.Answered.{rows, gathered, payload_under, feed_answer}
+use Rattle.rule_history.specs.Peaks.{peak, raised_by}
 use Rattle.rule_history.specs.Findings.{findings}
-use Rattle.rule_history.specs.Changed.{with, changed_rows, is_paired, in_paired}
+use Rattle.rule_history.specs.Changed.{with, changed_rows, is_paired, in_paired, in_peaked}
 use Rattle.rule_history.specs.Standing.{Standing, IsSince, stands, stands_after, opened, closed}
 use Rattle.engine_laws.specs.Delta.{Delta, IsDelta, IsChange, AreCounts}
 use Rattle.engine_laws.specs.Order.{found_cmp, Rises}
 use Rattle.engine_laws.specs.HeldFeeds.{HeldFeed, feed_at, data_of, AreOwn, IsJoined, KeyedFindings, AreFoundAt, joined, found_list, feed_found, renewed_lists, IsNext, held_after, rows_held, opened_in, closed_in}
 use Rattle.engine_laws.specs.Rows.{row_cmp}
 use Rattle.engine_laws.specs.Seats.{LosesNone}
-use Rattle.engine_laws.specs.Standings.{Held, StandsFor, IsListOf, findings_of, renewed}
+use Rattle.engine_laws.specs.Standings.{Held, Matches, StandsFor, IsListOf, findings_of, renewed}
 
 -- ---- findings
 -- The findings after a history are in order: by feed, header before entities, id, occurrence, rule, slot, index; and no rule
@@ -30,9 +32,9 @@ abbrev pub FindingsRise : Type 0
 FindingsRise = (t : Option Tables) (h : List Snapshot) → Rises found_cmp (findings t h)
 
 -- They are those of each feed, one feed after the other: on its header, judged with the header before, then at its entities,
--- judged with the header's timestamp, the moment, the timetable and the rows of all entities.
+-- judged with the header's timestamp, the moment, the timetable, the rows of all entities and the peaks.
 abbrev pub FindingsAreParts : Type 0
-FindingsAreParts = (t : Option Tables) (h : List Snapshot) → findings t h ≡ below (λ f. feed_found t (rows h) (now h f) (before h f)) feed_limit
+FindingsAreParts = (t : Option Tables) (h : List Snapshot) → findings t h ≡ below (λ f. feed_found t (gathered h) (now h f) (before h f)) feed_limit
 
 -- What is found on a feed's header stays as it is when another feed's snapshot comes.
 abbrev pub HeadersStay : Type 0
@@ -104,10 +106,21 @@ PairingKeeps = (find : List PairRow → EntityKey → Value entity → List Foun
     payload_under e.0 (entities_of_snapshot (old e.0.feed).last) ≡ Some e.1 → payload_under e.0 (entities_of_snapshot (new e.0.feed).last) ≡ Some e.1 →
     is_paired (rows_held old) (rows_held new) (rows_of e.0 (entity_of e.1)) ≡ false → find (rows_held old) e.0 (entity_of e.1) ≡ find (rows_held new) e.0 (entity_of e.1)
 
+-- ---- peaks
+-- One more snapshot raises the peaks of its feed by the snapshot before it, and leaves those of the others.
+abbrev pub PeaksRaise : Type 0
+PeaksRaise = (g : List Snapshot) (s : Snapshot) (f : ℕ) (vehicle : List ℕ) → peak (with g s) f vehicle ≡ (if s.feed == f then raised_by (now g f) (peak g f) vehicle else peak g f vehicle)
+
+-- An entity whose vehicle, if it gives one, has the peak that it had keeps what is found with peaks: whatever finds the same where the peak of an
+-- entity's vehicle is the same.
+abbrev pub PeakingStays : Type 0
+PeakingStays = (find : PeakMap → EntityKey → Value entity → List Found) → ((u v : PeakMap) (k : EntityKey) (e : Value entity) → SamePeak u v k e → find u k e ≡ find v k e) →
+    (g : List Snapshot) (s : Snapshot) (e : Keyed) → in_peaked g s e ≡ false → find (peak g) e.0 (entity_of e.1) ≡ find (peak (with g s)) e.0 (entity_of e.1)
+
 -- ---- engines
 -- What holds nothing stands for its timetable and the history without snapshots.
 abbrev pub NothingStands : Type 0
-NothingStands = (e : Held) → e.applied ≡ 0 → ((f : ℕ) → get_or e.last f None ≡ None) → e.list ≡ [] → StandsFor e e.table []
+NothingStands = (e : Held) → e.applied ≡ 0 → ((f : ℕ) → get_or e.last f None ≡ None) → ((f : ℕ) (vehicle : List ℕ) → e.peaks f vehicle ≡ None) → e.list ≡ [] → StandsFor e e.table []
 
 -- The data of a list of feeds are what is held of all feeds.
 abbrev pub DataAreJoined : Type 0
@@ -117,7 +130,17 @@ DataAreJoined = (t : Option Tables) (applied : ℕ) (list : List HeldFeed) → l
 abbrev pub NextIsOwn : Type 0
 NextIsOwn = (t : Option Tables) (applied : ℕ) (s : Snapshot) (old new : ℕ → HeldFeed) → AreOwn old → IsNext t applied s old new → AreOwn new
 
--- What stands for a history, and gives what is owed for a snapshot, then stands for the history with this snapshot at its end.
+-- What matches a history, and gives what is owed for a snapshot, then matches the history with this snapshot at its end.
+abbrev pub NextMatches : Type 0
+NextMatches = (e later : Held) (s : Snapshot) (old new : ℕ → HeldFeed) → AreOwn old → IsJoined e old → IsJoined later new → later.table ≡ e.table → later.applied ≡ e.applied + 1 →
+    IsNext e.table e.applied s old new → (t : Option Tables) (h : List Snapshot) → Matches e t h → Matches later t (with h s)
+
+-- Each rule at a place has its number of before in the list, and where it has none that of the snapshot.
+abbrev pub NextNumbers : Type 0
+NextNumbers = (e later : Held) (s : Snapshot) (old new : ℕ → HeldFeed) → AreOwn old → IsJoined e old → IsJoined later new →
+    IsNext e.table e.applied s old new → (t : Option Tables) (h : List Snapshot) → Matches e t h → later.list ≡ renewed e.list (length h) (findings t (with h s))
+
+-- What stands for a history then stands for the longer one.
 abbrev pub NextStands : Type 0
 NextStands = (e later : Held) (s : Snapshot) (old new : ℕ → HeldFeed) → AreOwn old → IsJoined e old → IsJoined later new → later.table ≡ e.table → later.applied ≡ e.applied + 1 →
     IsNext e.table e.applied s old new → (t : Option Tables) (h : List Snapshot) → StandsFor e t h → StandsFor later t (with h s)
@@ -125,7 +148,7 @@ NextStands = (e later : Held) (s : Snapshot) (old new : ℕ → HeldFeed) → Ar
 -- And a delta as it is owed is what the snapshot changes.
 abbrev pub NextChanges : Type 0
 NextChanges = (e later : Held) (s : Snapshot) (old new : ℕ → HeldFeed) → AreOwn old → IsJoined e old → IsJoined later new →
-    IsNext e.table e.applied s old new → (d : Delta) → IsChange e.applied s old new d → (t : Option Tables) (h : List Snapshot) → StandsFor e t h → IsDelta t h s later.list d
+    IsNext e.table e.applied s old new → (d : Delta) → IsChange e.applied s old new d → (t : Option Tables) (h : List Snapshot) → Matches e t h → IsDelta t h s later.list d
 
 -- What is owed is one thing: the computed answer meets the equations, and nothing else does.
 pub record NextIsComputed : Type 0 where
@@ -134,5 +157,5 @@ pub record NextIsComputed : Type 0 where
 
 -- So how many entities a snapshot concerns is told by what is held before it alone, also where no engine for the longer history is there.
 abbrev pub CountsAreHeld : Type 0
-CountsAreHeld = (e : Held) (s : Snapshot) (old : ℕ → HeldFeed) → AreOwn old → IsJoined e old → s.feed < feed_limit → (t : Option Tables) (h : List Snapshot) → StandsFor e t h →
+CountsAreHeld = (e : Held) (s : Snapshot) (old : ℕ → HeldFeed) → AreOwn old → IsJoined e old → s.feed < feed_limit → (t : Option Tables) (h : List Snapshot) → Matches e t h →
     AreCounts t h s old (held_after e.table e.applied s old)

@@ -2,9 +2,11 @@
 use Rattle.std.specs.Prelude.{◌≡◌, ℕ, List, [], ◌∷◌, length, map, get_or, Option, Some, None, unwrap_or, if◌then◌else◌}
 use Rattle.timetable.specs.Timetables.{Tables}
 use Rattle.rule_table.specs.Found.{Found}
+use Rattle.rule_table.specs.Peaks.{PeakMap}
 use Rattle.rule_table.specs.Groups.{Each}
 use Rattle.rule_history.specs.History.{Snapshot, now}
 use Rattle.rule_history.specs.Findings.{findings}
+use Rattle.rule_history.specs.Peaks.{peak}
 use Rattle.rule_history.specs.Standing.{Standing, IsSince, stands_after, same_spot}
 
 abbrev pub findings_of : List Standing → List Found
@@ -15,20 +17,30 @@ pub record IsListOf (t : Option Tables) (h : List Snapshot) (list : List Standin
   pub found : findings_of list ≡ findings t h
   pub since : Each (λ x. IsSince (stands_after t h x.finding) (length h) x.since) list
 
--- The plain data of an engine: its timetable, how many snapshots it has taken, the last one of each feed, and its list.
+-- The plain data of an engine: its timetable, how many snapshots it has taken, the last one of each feed, the peaks of vehicles, and its list.
 pub record Held : Type 0 where
   pub table : Option Tables
   pub applied : ℕ
   pub last : List (Option Snapshot)
+  pub peaks : PeakMap
   pub list : List Standing
 
--- It stands for a timetable and a history: the timetable is its own, its number is how many snapshots there are, it has the
--- last snapshot of each feed and none of a feed without one, and its list has the findings with their numbers.
-pub record StandsFor (e : Held) (t : Option Tables) (h : List Snapshot) : Type 0 where
+-- It matches a timetable and a history: the timetable is its own, its number is how many snapshots there are, it has the
+-- last snapshot of each feed and none of a feed without one, it has the peaks, and its list has the findings.
+pub record Matches (e : Held) (t : Option Tables) (h : List Snapshot) : Type 0 where
   pub table_is : e.table ≡ t
   pub number : e.applied ≡ length h
   pub last_is : (f : ℕ) → get_or e.last f None ≡ now h f
-  pub list_is : IsListOf t h e.list
+  pub peaks_are : (f : ℕ) (vehicle : List ℕ) → e.peaks f vehicle ≡ peak h f vehicle
+  pub found_is : findings_of e.list ≡ findings t h
+
+-- It stands for them: it matches them, and each number in its list is that since when the rule stands at its place.
+pub record StandsFor (e : Held) (t : Option Tables) (h : List Snapshot) : Type 0 where
+  pub matches : Matches e t h
+  pub since : Each (λ x. IsSince (stands_after t h x.finding) (length h) x.since) e.list
+
+pub listed : (e : Held) (t : Option Tables) (h : List Snapshot) → StandsFor e t h → IsListOf t h e.list
+listed e t h st = record { found = st.matches.found_is; since = st.since }
 
 -- ---- how numbers go on
 -- the number of a rule at a place in a list, whatever the facts

@@ -2,7 +2,7 @@
 //! timetable and every history.
 ghost use Rattle.engine_laws.specs.Computed.{DeltaIsComputed, FirstIsNew, ListIsComputed};
 ghost use Rattle.engine_laws.specs.Walk.{WalkCloses, WalkOpens, WalkRenews};
-ghost use Rattle.engine_laws.specs.Laws.{PairingStays, PairingKeeps, NextIsComputed, CountsAreHeld, DataAreJoined, FindingsRise, FindingsAreParts, HeadersStay, NoneIsLost, SinceGoesOn, SinceStarts, ListGoesOn, PartsRenew, PartsOpen, PartsClose, RowsRise, RowsStay, RowsAgree, NothingStands, NextIsOwn, NextStands, NextChanges};
+ghost use Rattle.engine_laws.specs.Laws.{PairingStays, PairingKeeps, PeaksRaise, PeakingStays, NextIsComputed, CountsAreHeld, DataAreJoined, FindingsRise, FindingsAreParts, HeadersStay, NoneIsLost, SinceGoesOn, SinceStarts, ListGoesOn, PartsRenew, PartsOpen, PartsClose, RowsRise, RowsStay, RowsAgree, NothingStands, NextIsOwn, NextMatches, NextNumbers, NextStands, NextChanges};
 
 /// The findings after a history are in order: by feed, header before entities, id, occurrence, rule, slot, index. So no rule
 /// stands twice at a place.
@@ -108,6 +108,16 @@ pub fn pairing_keeps()
     ensures { PairingKeeps }
 {}
 
+/// One more snapshot raises the peaks of its feed by the snapshot before it.
+pub fn peaks_raise()
+    ensures { PeaksRaise }
+{}
+
+/// An entity whose vehicle's peak is the same keeps what is found with peaks.
+pub fn peaking_stays()
+    ensures { PeakingStays }
+{}
+
 /// What holds nothing stands for the history without snapshots.
 #[tactic(auto, using(crate::proofs::Proved::nothing_stands))]
 pub fn nothing_stands()
@@ -125,7 +135,17 @@ pub fn next_is_own()
     ensures { NextIsOwn }
 {}
 
-/// What stands for a history, and gives what is owed for one more snapshot, stands for the longer history.
+/// What matches a history, and gives what is owed for one more snapshot, matches the longer history.
+pub fn next_matches()
+    ensures { NextMatches }
+{}
+
+/// Each rule at a place keeps its number, and a new one has that of the snapshot.
+pub fn next_numbers()
+    ensures { NextNumbers }
+{}
+
+/// What stands for a history then stands for the longer one.
 pub fn next_stands()
     ensures { NextStands }
 {}
@@ -141,7 +161,7 @@ pub fn next_is_computed()
     ensures { NextIsComputed }
 {}
 
-/// So are the three counts of the entities that it concerns, also where no engine for the longer history is there.
+/// So are the four counts of the entities that it concerns, also where no engine for the longer history is there.
 pub fn counts_are_held()
     ensures { CountsAreHeld }
 {}
@@ -157,7 +177,7 @@ pub fn delta_is_computed()
     ensures { DeltaIsComputed }
 {}
 
-/// All entities of the first snapshot of a history are tested, paired and bounded.
+/// All entities of the first snapshot of a history are tested, paired, bounded and peaked.
 #[tactic(auto, using(crate::proofs::Computed::first_is_new))]
 pub fn first_is_new()
     ensures { FirstIsNew }

@@ -40,7 +40,7 @@ use Rattle.rule_table.specs.Sources.{is_bounded}
 use Rattle.rule_table.specs.Same.{SameFrom, all_same}
 use Rattle.rule_table.specs.Bounds.{bound_at, IsAbove, StandsAt, AreHeld, IsStamp, AreAtStamps, is_timestamp, stamp_at}
 use Rattle.rule_history.specs.History.{Snapshot, Keyed, IsTaken, IsHistory, now, entities, entities_in, entities_of_snapshot, keyed_after, ordered_after, feed_limit, feed_limit-is}
-use Rattle.rule_history.specs.Answered.{rows, payload_under, feed_answer}
+use Rattle.rule_history.specs.Answered.{gathered, payload_under, feed_answer}
 use Rattle.rule_history.specs.Findings.{feed_findings, entity_findings}
 use Rattle.rule_history.specs.Changed.{with, same_number, keeps_bounds, is_bound_at, is_under, has_bound, in_tested, in_bounded}
 use Rattle.rule_history.proofs.Keyed.{each_put}
@@ -167,7 +167,7 @@ module _ (t : Option Tables) (h : List Snapshot) (e : Keyed) (l : e.0.feed < fee
   abbrev found : List Found
   found = found_all bound_rules (bound_answer stamp s.moment e.0 (entity_of e.1)) e.0 (entity_of e.1)
 
-  same_asks : SameFrom is_bounded (bound_answer stamp s.moment e.0 (entity_of e.1)) (held_answer t (rows h) s e.0 (entity_of e.1))
+  same_asks : SameFrom is_bounded (bound_answer stamp s.moment e.0 (entity_of e.1)) (held_answer t (gathered h) s e.0 (entity_of e.1))
   same_asks (ask.Cell p) m = refl
   same_asks ask.Occurrence m = refl
   same_asks (ask.HeadNow S3) m = refl
@@ -199,8 +199,8 @@ module _ (t : Option Tables) (h : List Snapshot) (e : Keyed) (l : e.0.feed < fee
       here : list_any (is_bound_at e.0) (entity_findings t h e) ≡ true
       here =
           ap (list_any (is_bound_at e.0)) (entity-found t h e.0.feed s last e (sym (now-feed h e.0.feed s last)) under)
-          ∙ any_of_some (is_bound_at e.0) (held_answer t (rows h) s e.0 (entity_of e.1)) e.0 (entity_of e.1) bound_rules all_rules refl
-          (sym (ap (list_any (is_bound_at e.0)) (all_same is_bounded (bound_answer stamp s.moment e.0 (entity_of e.1)) (held_answer t (rows h) s e.0 (entity_of e.1)) same_asks bound_rules refl e.0 (entity_of e.1))) ∙ m)
+          ∙ any_of_some (is_bound_at e.0) (held_answer t (gathered h) s e.0 (entity_of e.1)) e.0 (entity_of e.1) bound_rules all_rules refl
+          (sym (ap (list_any (is_bound_at e.0)) (all_same is_bounded (bound_answer stamp s.moment e.0 (entity_of e.1)) (held_answer t (gathered h) s e.0 (entity_of e.1)) same_asks bound_rules refl e.0 (entity_of e.1))) ∙ m)
 
   -- so where none does, no timestamp is above a bound
   none_above : AreNumbersHeld stamp s.moment (entity_of e.1) → has_bound t h e.0 ≡ false → NoneAbove (Some (low_bound stamp s.moment)) (entity_of e.1)

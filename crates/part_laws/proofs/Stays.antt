@@ -6,12 +6,14 @@ use borrow.Author.Tests.{eqb-true, eqb-false, ne_eqb}
 use Rattle.feed_values.specs.Snapshot.{entity_of}
 use Rattle.rule_history.specs.History.{Snapshot, Keyed, entities, entities_of_snapshot}
 use Rattle.rule_history.specs.Answered.{rows, payload_under}
-use Rattle.rule_history.specs.Changed.{with, is_payload, in_tested, in_paired}
+use Rattle.rule_history.specs.Peaks.{peak}
+use Rattle.rule_history.specs.Changed.{with, is_payload, in_tested, in_paired, in_peaked}
 use Rattle.engine_laws.proofs.Longer.{now-other}
 use Rattle.engine_laws.proofs.Pairing.{pairing_stays}
+use Rattle.engine_laws.proofs.Peaking.{peaking_stays}
 use Rattle.engine_laws.proofs.Spots.{or_false}
-use Rattle.part_laws.specs.Parts.{FindLocal, FindPaired, IsThere}
-use Rattle.part_laws.specs.Stays.{LocalStays, PairedStays, IsPairing}
+use Rattle.part_laws.specs.Parts.{FindLocal, FindPaired, FindPeaked, IsThere}
+use Rattle.part_laws.specs.Stays.{LocalStays, PairedStays, PeakedStays, IsPairing, IsPeaking}
 
 same_payload : (p : List ℕ) (o : Option (List ℕ)) → not (is_payload p o) ≡ false → o ≡ Some p
 same_payload p None h = cc
@@ -42,3 +44,10 @@ paired_stays find is g s e l there out =
     ap (option_map (λ p. find (rows g) e.0 (entity_of p))) old
     ∙ ap Some (pairing_stays find is.agree is.none g s e l old there parts.1)
     ∙ sym (ap (option_map (λ p. find (rows (with g s)) e.0 (entity_of p))) there)
+
+pub peaked_stays : (find : FindPeaked) → IsPeaking find → PeakedStays find
+peaked_stays find is g s e there out =
+    let parts = or_false (in_tested g s e) (in_peaked g s e) out in
+    ap (option_map (λ p. find (peak g) e.0 (entity_of p))) (was_there g s e there parts.0)
+    ∙ ap Some (peaking_stays find is.same g s e parts.1)
+    ∙ sym (ap (option_map (λ p. find (peak (with g s)) e.0 (entity_of p))) there)

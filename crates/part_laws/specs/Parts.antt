@@ -1,4 +1,4 @@
--- What is found at an entity after a history, by its parts: by itself and with the timetable, with pairing rows, and by bounds. Each is what some
+-- What is found at an entity after a history, by its parts: by itself and with the timetable, with pairing rows, by bounds, and by peaks. Each is what some
 -- group of rules finds, which is handed in as a function of what its trait lets it see.
 use Rattle.std.specs.Prelude.{◌≡◌, ℕ, ℤ, List, Option, Some, option_map, option_and_then}
 use Rattle.feed_values.specs.Schema.{Value}
@@ -8,10 +8,12 @@ use Rattle.timetable.specs.Timetables.{Tables}
 use Rattle.rule_table.specs.declared.key.EntityKey.{EntityKey}
 use Rattle.rule_table.specs.Found.{Found}
 use Rattle.rule_table.specs.Pairs.{PairRow}
+use Rattle.rule_table.specs.Peaks.{PeakMap}
 use Rattle.rule_history.specs.History.{Snapshot, Keyed, now, entities}
 use Rattle.rule_history.specs.Answered.{rows, payload_under}
+use Rattle.rule_history.specs.Peaks.{peak}
 
--- what groups of the three sorts find
+-- what groups of the four sorts find
 abbrev pub FindLocal : Type 0
 FindLocal = Option Tables → EntityKey → Value entity → List Found
 
@@ -20,6 +22,9 @@ FindPaired = List PairRow → EntityKey → Value entity → List Found
 
 abbrev pub FindBounded : Type 0
 FindBounded = Option ℤ → ℕ → EntityKey → Value entity → List Found
+
+abbrev pub FindPeaked : Type 0
+FindPeaked = PeakMap → EntityKey → Value entity → List Found
 
 -- an entity is there after a history, under its key and with its byte string
 abbrev pub IsThere : List Snapshot → Keyed → Type 0
@@ -35,3 +40,6 @@ paired_part find h key = option_map (λ p. find (rows h) key (entity_of p)) (pay
 abbrev pub bounded_part : FindBounded → List Snapshot → EntityKey → Option (List Found)
 bounded_part find h key =
     option_and_then (λ s. option_map (λ p. find (timestamp_of (header_of s.bytes)) s.moment key (entity_of p)) (payload_under key (entities h key.feed))) (now h key.feed)
+
+abbrev pub peaked_part : FindPeaked → List Snapshot → EntityKey → Option (List Found)
+peaked_part find h key = option_map (λ p. find (peak h) key (entity_of p)) (payload_under key (entities h key.feed))

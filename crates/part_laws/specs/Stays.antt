@@ -6,9 +6,10 @@ use Rattle.timetable.specs.Timetables.{Tables}
 use Rattle.rule_table.specs.declared.key.EntityKey.{EntityKey}
 use Rattle.rule_table.specs.Pairs.{PairRow, rows_of}
 use Rattle.rule_table.specs.PairAgree.{Agree}
+use Rattle.rule_table.specs.Peaks.{PeakMap, SamePeak}
 use Rattle.rule_history.specs.History.{Snapshot, Keyed, feed_limit}
-use Rattle.rule_history.specs.Changed.{with, in_tested, in_paired}
-use Rattle.part_laws.specs.Parts.{FindLocal, FindPaired, IsThere, local_part, paired_part}
+use Rattle.rule_history.specs.Changed.{with, in_tested, in_paired, in_peaked}
+use Rattle.part_laws.specs.Parts.{FindLocal, FindPaired, FindPeaked, IsThere, local_part, paired_part, peaked_part}
 
 -- An entity that isn't tested, since it was there with the same byte string, keeps what depends on the timetable, its key and itself alone.
 abbrev pub LocalStays : FindLocal → Type 0
@@ -22,3 +23,11 @@ PairedStays find = (g : List Snapshot) (s : Snapshot) (e : Keyed) → e.0.feed <
 pub record IsPairing (find : FindPaired) : Type 0 where
   pub agree : (u v : List PairRow) (k : EntityKey) (e : Value entity) → Agree u v k e → find u k e ≡ find v k e
   pub none : (u : List PairRow) (k : EntityKey) (e : Value entity) → rows_of k e ≡ [] → find u k e ≡ []
+
+-- One that is neither tested nor peaked keeps what peaks tell of it.
+abbrev pub PeakedStays : FindPeaked → Type 0
+PeakedStays find = (g : List Snapshot) (s : Snapshot) (e : Keyed) → IsThere (with g s) e → (in_tested g s e || in_peaked g s e) ≡ false → peaked_part find g e.0 ≡ peaked_part find (with g s) e.0
+
+-- So it is for all that finds the same where the peak of the entity's vehicle is the same.
+pub record IsPeaking (find : FindPeaked) : Type 0 where
+  pub same : (u v : PeakMap) (k : EntityKey) (e : Value entity) → SamePeak u v k e → find u k e ≡ find v k e

@@ -2,11 +2,11 @@
 //! timetable, every history, and every group of rules.
 ghost use Rattle.part_laws.specs.Bounded.{BoundedStays, BoundsAreLow, NoneIsBounded};
 ghost use Rattle.part_laws.specs.FourParts.{MergedCloses, MergedIsByRule, MergedOpens, MergedRenews};
-ghost use Rattle.part_laws.specs.Stays.{LocalStays, PairedStays};
+ghost use Rattle.part_laws.specs.Stays.{LocalStays, PairedStays, PeakedStays};
 ghost use Rattle.part_laws.specs.Touched.{TouchedClose, TouchedOpen};
 
 use rule_clear::LocalRule;
-use rule_table::{BoundRule, PairRule};
+use rule_table::{BoundRule, PairRule, PeakRule};
 
 /// An entity that was there with the same bytes keeps what a group finds at it by itself and with the timetable.
 pub fn local_part_stays<R: LocalRule>(_rule: &R)
@@ -23,6 +23,11 @@ pub fn paired_part_stays<R: PairRule>(_rule: &R)
 /// what a group finds by bounds.
 pub fn bounded_part_stays<R: BoundRule>(_rule: &R)
     ensures { BoundedStays (R.findings _rule.now) }
+{}
+
+/// If moreover its vehicle, where it gives one, has the peak that it had, it keeps what a group finds with peaks.
+pub fn peaked_part_stays<R: PeakRule>(_rule: &R)
+    ensures { PeakedStays (R.findings _rule.now) }
 {}
 
 /// A group finds nothing by bounds where no timestamp is above the lower of them.

@@ -9,5 +9,6 @@ mod laws;
 
 pub use laws::{
     bounded_part_stays, bounds_are_low, local_part_stays, merged_closes, merged_is_by_rule,
-    merged_opens, merged_renews, none_is_bounded, paired_part_stays, touched_close, touched_open,
+    merged_opens, merged_renews, none_is_bounded, paired_part_stays, peaked_part_stays,
+    touched_close, touched_open,
 };
