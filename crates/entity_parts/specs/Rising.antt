@@ -9,23 +9,24 @@ use Rattle.timetable.specs.Timetables.{Tables}
 use Rattle.rule_table.specs.declared.rule.RuleId.{RuleId}
 use Rattle.rule_table.specs.declared.ask.Ask.{Ask}
 use Rattle.rule_table.specs.declared.key.EntityKey.{EntityKey}
-use Rattle.rule_table.specs.Answers.{pair_answer, bound_answer}
+use Rattle.rule_table.specs.Answers.{pair_answer, bound_answer, peak_answer}
 use Rattle.rule_table.specs.Table.{all_rules, slots_of}
 use Rattle.rule_table.specs.Found.{Found}
 use Rattle.rule_table.specs.Judged.{found_by, found_all}
 use Rattle.rule_table.specs.Groups.{has_rule, are_apart}
 use Rattle.rule_table.specs.GroupLaws.{all_append}
 use Rattle.rule_table.specs.Pairs.{PairRow}
+use Rattle.rule_table.specs.Peaks.{PeakMap}
 use Rattle.rule_history.specs.Answered.{local_answer}
 use Rattle.message_rules.specs.Message.{message_rules}
 use Rattle.schedule_rules.specs.Schedule.{schedule_rules}
 use Rattle.pairing_rules.specs.Pairing.{pairing_rules}
-use Rattle.history_rules.specs.Rules.{bound_rules}
+use Rattle.history_rules.specs.Rules.{bound_rules, peak_rules}
 use Rattle.judging.specs.Ruled.{of_rule, by_rule, in_rule_order}
 use Rattle.judging.proofs.Ruled.{is_covered, picked, ruled}
 use Rattle.engine_laws.specs.Order.{found_cmp, Rises}
 use Rattle.engine_laws.proofs.Ascending.{are_sorted, found_ascend}
-use Rattle.entity_parts.specs.Found.{local_found, paired_found, bounded_found, local_rules}
+use Rattle.entity_parts.specs.Found.{local_found, paired_found, bounded_found, peaked_found, local_rules}
 use Rattle.entity_parts.specs.Whole.{PartsRise}
 
 module _ (answer : Ask → Option CellValue) (k : EntityKey) (e : Value entity) (rules : List RuleId) (apart : are_apart rules ≡ true) where
@@ -58,5 +59,9 @@ pub bounded_rises : (timestamp : Option ℤ) (moment : ℕ) (k : EntityKey) (e :
 unfolding in_rule_order
 bounded_rises timestamp moment k e = ascends (bound_answer timestamp moment k e) k e bound_rules refl refl refl
 
+pub peaked_rises : (peaks : PeakMap) (k : EntityKey) (e : Value entity) → Rises found_cmp (peaked_found peaks k e)
+unfolding in_rule_order
+peaked_rises peaks k e = ascends (peak_answer peaks k e) k e peak_rules refl refl refl
+
 pub parts_rise : PartsRise
-parts_rise = record { local = local_rises; paired = paired_rises; bounded = bounded_rises }
+parts_rise = record { local = local_rises; paired = paired_rises; bounded = bounded_rises; peaked = peaked_rises }

@@ -1,7 +1,7 @@
-//! An entity's findings in three parts, by what they rest on: the entity with the timetable, the pairing rows of all entities, and the bounds of
-//! timestamps. Each part is judged by itself, and the three together are the findings of all rules.
+//! An entity's findings in four parts, by what they rest on: the entity with the timetable, the pairing rows of all entities, the bounds of
+//! timestamps, and the peaks of vehicles. Each part is judged by itself, and the four together are the findings of all rules.
 //!
-//! `part` is what the three have in common, `rules` holds the groups of rules, and `local`, `paired` and `bounded` are the parts. `laws` says that the
+//! `part` is what the four have in common, `rules` holds the groups of rules, and `local`, `paired`, `bounded` and `peaked` are the parts. `laws` says that the
 //! parts are the whole.
 #![tactic(auto)]
 
@@ -10,6 +10,7 @@ mod laws;
 mod local;
 mod paired;
 mod part;
+mod peaked;
 mod rules;
 
 pub use bounded::BoundedPart;
@@ -17,4 +18,5 @@ pub use laws::{parts_are_the_whole, parts_rise};
 pub use local::LocalPart;
 pub use paired::PairedPart;
 pub use part::EntityPart;
+pub use peaked::PeakedPart;
 pub use rules::PartRules;

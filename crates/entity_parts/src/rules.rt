@@ -1,6 +1,6 @@
 //! The groups of rules that are judged at entities.
 
-use history_rules::BoundGroup;
+use history_rules::{BoundGroup, PeakGroup};
 use message_rules::MessageGroup;
 use pairing_rules::PairGroup;
 use rule_table::Both;
@@ -12,6 +12,7 @@ pub struct PartRules {
     pub(crate) local: Both<MessageGroup, ScheduleGroup>,
     pub(crate) paired: PairGroup,
     pub(crate) bounded: BoundGroup,
+    pub(crate) peaked: PeakGroup,
 }
 
 impl PartRules {
@@ -20,6 +21,7 @@ impl PartRules {
             local: Both::new(MessageGroup::new(), ScheduleGroup::new()),
             paired: PairGroup::new(),
             bounded: BoundGroup::new(),
+            peaked: PeakGroup::new(),
         }
     }
 }

@@ -11,9 +11,8 @@ use Rattle.rule_table.specs.declared.ask.Ask.{Ask}
 use Rattle.rule_table.specs.declared.ask.Ask.TheVariants as ask
 use Rattle.rule_table.specs.declared.key.EntityKey.{EntityKey}
 use Rattle.rule_table.specs.declared.rule.RuleId.{RuleId}
-use Rattle.rule_table.specs.Answers.{Heads}
+use Rattle.rule_table.specs.Answers.{Gathered, Heads}
 use Rattle.rule_table.specs.Judged.{found_all, found_by, found_in}
-use Rattle.rule_table.specs.Pairs.{PairRow}
 use Rattle.rule_table.specs.Sources.{source_of}
 use Rattle.rule_table.specs.Table.{all_rules, slots_of}
 use Rattle.rule_table.specs.Asks.{has_places, has_some, is_timetable}
@@ -43,8 +42,8 @@ module _ (answer : Ask → Option CellValue) (k : EntityKey) (e : Value entity) 
   placed [] = refl
   placed (rule ∷ rules) = placed_one rule rules (has_places rule) refl (placed rules)
 
-module _ (rows : List PairRow) (heads : Heads) (k : EntityKey) (e : Value entity) where
-  unanswered : (q : Ask) → is_timetable (source_of q) ≡ true → whole_answer None rows heads k e q ≡ None
+module _ (u : Gathered) (heads : Heads) (k : EntityKey) (e : Value entity) where
+  unanswered : (q : Ask) → is_timetable (source_of q) ≡ true → whole_answer None u heads k e q ≡ None
   unanswered (ask.Cell p) h = absurd (clash h)
   unanswered ask.Occurrence h = absurd (clash h)
   unanswered (ask.HeadNow S3) h = absurd (clash h)
@@ -59,20 +58,21 @@ module _ (rows : List PairRow) (heads : Heads) (k : EntityKey) (e : Value entity
   unanswered (ask.HasVehicle kind vehicle) h = absurd (clash h)
   unanswered (ask.FirstId feed vehicle) h = absurd (clash h)
   unanswered (ask.FirstOccurrence feed vehicle) h = absurd (clash h)
+  unanswered (ask.Peak feed vehicle) h = absurd (clash h)
   unanswered _ h = refl
 
   -- one rule more, which is kept or asks the timetable
   one_more : (rule : RuleId) (rules : List RuleId) (b : Bool) → asks_timetable rule ≡ b
-      → found_all (filter keeps rules) (whole_answer None rows heads k e) k e ≡ found_all rules (whole_answer None rows heads k e) k e
-      → found_all (if not b then rule ∷ filter keeps rules else filter keeps rules) (whole_answer None rows heads k e) k e
-      ≡ found_by rule (whole_answer None rows heads k e) k e ++ found_all rules (whole_answer None rows heads k e) k e
-  one_more rule rules true asks h = h ∙ ap (λ fs. fs ++ found_all rules (whole_answer None rows heads k e) k e) (sym (by_none (whole_answer None rows heads k e) unanswered k e rule asks))
-  one_more rule rules false asks h = ap (λ fs. found_by rule (whole_answer None rows heads k e) k e ++ fs) h
+      → found_all (filter keeps rules) (whole_answer None u heads k e) k e ≡ found_all rules (whole_answer None u heads k e) k e
+      → found_all (if not b then rule ∷ filter keeps rules else filter keeps rules) (whole_answer None u heads k e) k e
+      ≡ found_by rule (whole_answer None u heads k e) k e ++ found_all rules (whole_answer None u heads k e) k e
+  one_more rule rules true asks h = h ∙ ap (λ fs. fs ++ found_all rules (whole_answer None u heads k e) k e) (sym (by_none (whole_answer None u heads k e) unanswered k e rule asks))
+  one_more rule rules false asks h = ap (λ fs. found_by rule (whole_answer None u heads k e) k e ++ fs) h
 
-  kept : (rules : List RuleId) → found_all (filter keeps rules) (whole_answer None rows heads k e) k e ≡ found_all rules (whole_answer None rows heads k e) k e
+  kept : (rules : List RuleId) → found_all (filter keeps rules) (whole_answer None u heads k e) k e ≡ found_all rules (whole_answer None u heads k e) k e
   kept [] = refl
   kept (rule ∷ rules) = one_more rule rules (asks_timetable rule) refl (kept rules)
 
-  pub found_beside : found_all beside_timetable (whole_answer None rows heads k e) k e ≡ entity_found None rows heads k e
+  pub found_beside : found_all beside_timetable (whole_answer None u heads k e) k e ≡ entity_found None u heads k e
   unfolding entity_found entity_rules
-  found_beside = kept entity_rules ∙ placed (whole_answer None rows heads k e) k e all_rules
+  found_beside = kept entity_rules ∙ placed (whole_answer None u heads k e) k e all_rules

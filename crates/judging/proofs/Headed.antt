@@ -1,19 +1,18 @@
 -- The findings of the group on headers are those of all rules there.
-use Rattle.std.specs.Prelude.{◌≡◌, ℕ, true, List, Option, refl}
+use Rattle.std.specs.Prelude.{◌≡◌, ℕ, true, Option, refl}
 use borrow.Author.Tests.{clash}
 use Rattle.timetable.specs.Timetables.{Tables}
 use Rattle.rule_table.specs.declared.ask.Ask.{Ask}
 use Rattle.rule_table.specs.declared.ask.Ask.TheVariants as ask
-use Rattle.rule_table.specs.Answers.{Heads, heads_answer}
+use Rattle.rule_table.specs.Answers.{Gathered, Heads, heads_answer}
 use Rattle.rule_table.specs.Judged.{head_found_all}
-use Rattle.rule_table.specs.Pairs.{PairRow}
 use Rattle.rule_table.specs.SameHeads.{heads_same}
 use Rattle.rule_table.specs.Sources.{source_of, is_headed}
 use Rattle.history_rules.specs.Rules.{head_rules}
 use Rattle.judging.specs.Whole.{feed_answer, header_found}
 
-module _ (t : Option Tables) (rows : List PairRow) (heads : Heads) where
-  same : (q : Ask) → is_headed (source_of q) ≡ true → heads_answer heads q ≡ feed_answer t rows heads q
+module _ (t : Option Tables) (u : Gathered) (heads : Heads) where
+  same : (q : Ask) → is_headed (source_of q) ≡ true → heads_answer heads q ≡ feed_answer t u heads q
   same (ask.HeadNow s) h = refl
   same (ask.HeadBefore s) h = refl
   same ask.Moment h = refl
@@ -21,6 +20,6 @@ module _ (t : Option Tables) (rows : List PairRow) (heads : Heads) where
   same _ h = absurd (clash h)
 
   -- the rules that aren't in the group have no place on a header
-  pub headed_all : (f : ℕ) → head_found_all head_rules (heads_answer heads) f ≡ header_found t rows heads f
+  pub headed_all : (f : ℕ) → head_found_all head_rules (heads_answer heads) f ≡ header_found t u heads f
   unfolding header_found
-  headed_all f = heads_same (heads_answer heads) (feed_answer t rows heads) same f head_rules refl
+  headed_all f = heads_same (heads_answer heads) (feed_answer t u heads) same f head_rules refl

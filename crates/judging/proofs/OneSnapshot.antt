@@ -7,6 +7,7 @@ use Rattle.std.specs.declared.cmp.Ordering.TheVariants as order
 use Rattle.std.specs.Ordering.{is_eq, ordering_reverse, match_ordering}
 use Rattle.std.specs.BTreeMap.{insert_entry}
 use Rattle.std.proofs.Common.{sym, ap, ◌∙◌, arith, eq-eqb}
+use Rattle.std.proofs.Math.Path.{fun_ext}
 use borrow.Author.Tests.{eqb-true, ne_eqb}
 use Rattle.feed_values.specs.Schema.{Value}
 use Rattle.feed_values.specs.Messages.{entity}
@@ -23,16 +24,18 @@ use Rattle.rule_table.specs.Judged.{found_all, head_found_all}
 use Rattle.rule_table.specs.Groups.{Each}
 use Rattle.rule_table.specs.CitedLaws.{both_same}
 use Rattle.rule_table.specs.Pairs.{PairRow, rows_of}
+use Rattle.rule_table.specs.Peaks.{greatest, no_peaks}
 use Rattle.rule_history.specs.History.{Snapshot, Keyed, now, before, entities, entities_in, entities_of_snapshot, keyed_after, ordered_after, count_id, id_of, below, feed_limit, first_of, second_of}
-use Rattle.rule_table.specs.Answers.{Heads, entity_answer, heads_answer, rows_answer}
-use Rattle.rule_history.specs.Answered.{heads_of, timetable_answer, rows_in, rows, feed_answer, payload_under}
+use Rattle.rule_table.specs.Answers.{Gathered, Heads, entity_answer, heads_answer, gathered_answer}
+use Rattle.rule_history.specs.Answered.{heads_of, timetable_answer, rows_in, rows, gathered, feed_answer, payload_under}
+use Rattle.rule_history.specs.Peaks.{all_but_first, peak, stamps_in}
 use Rattle.rule_history.specs.Findings.{entity_findings, feed_findings, findings}
 use Rattle.rule_table.proofs.SameKeys.{keys_total, same-key}
 use Rattle.rule_history.proofs.Keyed.{each_ordered, rising_after, keyed_feed}
 use Rattle.judging.specs.Seats as seat
 use Rattle.judging.specs.Seats.{Seat, Rising, seated_after, seats}
 use Rattle.judging.specs.Whole as whole
-use Rattle.judging.specs.Whole.{entity_found, header_found}
+use Rattle.judging.specs.Whole.{rows_alone, entity_found, header_found}
 use Rattle.judging.specs.Judged.{first_heads, seat_rows, found_at_seats, snapshot_found, OneSnapshot}
 
 -- ---- keys in order
@@ -186,28 +189,36 @@ module _ (t : Option Tables) (s : Snapshot) where
       below_one (λ f. rows_in (entities h f)) s.feed (λ g e. ap (λ o. rows_in (entities_of_snapshot o)) (now_none g e)) feed_limit l
       ∙ ap rows_in entities_here
 
+  -- before the one snapshot there is none
+  no_peak : peak h ≡ no_peaks
+  no_peak = fun_ext (λ f. fun_ext (λ v. go v (s.feed == f)))
+    where
+      go : (v : List ℕ) (b : Bool) → greatest (flat_map (stamps_in v) (all_but_first (reverse (cond b (s ∷ []) [])))) ≡ None
+      go v true = refl
+      go v false = refl
+
   -- what is answered of the feed
-  abbrev told : List PairRow → Ask → Option CellValue
+  abbrev told : Gathered → Ask → Option CellValue
   told r = whole.feed_answer t r heads
 
-  header_is : (r : List PairRow) → rows h ≡ r → head_found_all all_rules (feed_answer t h s.feed) s.feed ≡ header_found t r heads s.feed
+  header_is : (r : Gathered) → gathered h ≡ r → head_found_all all_rules (feed_answer t h s.feed) s.feed ≡ header_found t r heads s.feed
   unfolding header_found
   header_is r e =
-      ap (λ o. head_found_all all_rules (λ a. option_and_then (λ x. option_or (heads_answer (heads_of x (before h s.feed)) a) (option_or (timetable_answer t a) (rows_answer (rows h) a))) o) s.feed) now_here
-      ∙ ap (λ p. head_found_all all_rules (λ a. option_or (heads_answer (heads_of s p) a) (option_or (timetable_answer t a) (rows_answer (rows h) a))) s.feed) none_before
+      ap (λ o. head_found_all all_rules (λ a. option_and_then (λ x. option_or (heads_answer (heads_of x (before h s.feed)) a) (option_or (timetable_answer t a) (gathered_answer (gathered h) a))) o) s.feed) now_here
+      ∙ ap (λ p. head_found_all all_rules (λ a. option_or (heads_answer (heads_of s p) a) (option_or (timetable_answer t a) (gathered_answer (gathered h) a))) s.feed) none_before
       ∙ ap (λ u. head_found_all all_rules (told u) s.feed) e
 
   -- at an entity of the snapshot
-  entity_is : (r : List PairRow) → rows h ≡ r → (e : Keyed) → e.0.feed ≡ s.feed → payload_under e.0 es ≡ Some e.1 → entity_findings t h e ≡ entity_found t r heads e.0 (entity_of e.1)
+  entity_is : (r : Gathered) → gathered h ≡ r → (e : Keyed) → e.0.feed ≡ s.feed → payload_under e.0 es ≡ Some e.1 → entity_findings t h e ≡ entity_found t r heads e.0 (entity_of e.1)
   unfolding entity_found
   entity_is r u e f p =
       ap (λ g. found_all all_rules (λ a. option_and_then (λ q. option_or (entity_answer e.0 (entity_of q) a) (feed_answer t h g a)) (payload_under e.0 (entities h g))) e.0 (entity_of e.1)) f
       ∙ ap (λ o. found_all all_rules (λ a. option_and_then (λ q. option_or (entity_answer e.0 (entity_of q) a) (feed_answer t h s.feed a)) o) e.0 (entity_of e.1)) (ap (payload_under e.0) entities_here ∙ p)
-      ∙ ap (λ o. found_all all_rules (λ a. option_or (entity_answer e.0 (entity_of e.1) a) (option_and_then (λ x. option_or (heads_answer (heads_of x (before h s.feed)) a) (option_or (timetable_answer t a) (rows_answer (rows h) a))) o)) e.0 (entity_of e.1)) now_here
-      ∙ ap (λ b. found_all all_rules (λ a. option_or (entity_answer e.0 (entity_of e.1) a) (option_or (heads_answer (heads_of s b) a) (option_or (timetable_answer t a) (rows_answer (rows h) a)))) e.0 (entity_of e.1)) none_before
+      ∙ ap (λ o. found_all all_rules (λ a. option_or (entity_answer e.0 (entity_of e.1) a) (option_and_then (λ x. option_or (heads_answer (heads_of x (before h s.feed)) a) (option_or (timetable_answer t a) (gathered_answer (gathered h) a))) o)) e.0 (entity_of e.1)) now_here
+      ∙ ap (λ b. found_all all_rules (λ a. option_or (entity_answer e.0 (entity_of e.1) a) (option_or (heads_answer (heads_of s b) a) (option_or (timetable_answer t a) (gathered_answer (gathered h) a)))) e.0 (entity_of e.1)) none_before
       ∙ ap (λ v. found_all all_rules (λ a. option_or (entity_answer e.0 (entity_of e.1) a) (told v a)) e.0 (entity_of e.1)) u
 
-  entities_are : (r : List PairRow) → rows h ≡ r → (ds : List Keyed) → Each (λ e. e.0.feed ≡ s.feed) ds → Each (IsFound es) ds
+  entities_are : (r : Gathered) → gathered h ≡ r → (ds : List Keyed) → Each (λ e. e.0.feed ≡ s.feed) ds → Each (IsFound es) ds
       → flat_map (entity_findings t h) ds ≡ flat_map (λ e. entity_found t r heads e.0 (entity_of e.1)) ds
   entities_are r u [] f p = refl
   entities_are r u (d ∷ ds) f p = both_same (entity_is r u d f.0 p.0) (entities_are r u ds f.1 p.1)
@@ -218,14 +229,15 @@ module _ (t : Option Tables) (s : Snapshot) where
   one : s.feed < feed_limit → findings t h ≡ snapshot_found t s.feed s.moment (header_of s.bytes) (entities_of s.bytes)
   one l =
       let r : List PairRow = seat_rows (seats s.feed (entities_of s.bytes)) in
-      let u : rows h ≡ r = rows_here l ∙ flat_value (λ e. rows_of e.0 e.1) es ∙ ap seat_rows (seats_are s.feed s.bytes) in
+      let v : rows h ≡ r = rows_here l ∙ flat_value (λ e. rows_of e.0 e.1) es ∙ ap seat_rows (seats_are s.feed s.bytes) in
+      let u : gathered h ≡ rows_alone r = ap (λ rs. let g : Gathered = record { rows = rs; peaks = peak h } in g) v ∙ ap (λ p. let g : Gathered = record { rows = r; peaks = p } in g) no_peak in
       below_one feed_part s.feed (λ g e. ap (feed_findings t h g) (now_none g e)) feed_limit l
       ∙ ap (feed_findings t h s.feed) now_here
-      ∙ both_same (header_is r u)
+      ∙ both_same (header_is (rows_alone r) u)
       (ap (flat_map (entity_findings t h)) entities_here
-      ∙ entities_are r u es (each_ordered (λ k. k.feed ≡ s.feed) [] (keyed_after s.feed [] (entity_payloads s.bytes)) tt (keyed_feed s.feed [] (entity_payloads s.bytes)))
+      ∙ entities_are (rows_alone r) u es (each_ordered (λ k. k.feed ≡ s.feed) [] (keyed_after s.feed [] (entity_payloads s.bytes)) tt (keyed_feed s.feed [] (entity_payloads s.bytes)))
       (each_found es (rising_after [] (keyed_after s.feed [] (entity_payloads s.bytes)) tt))
-      ∙ flat_value (λ e. entity_found t r heads e.0 e.1) es
+      ∙ flat_value (λ e. entity_found t (rows_alone r) heads e.0 e.1) es
       ∙ ap (found_at_seats t r heads) (seats_are s.feed s.bytes))
 
 pub one_snapshot : OneSnapshot

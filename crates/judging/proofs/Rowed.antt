@@ -1,6 +1,6 @@
 -- Rows of trip updates and then those of vehicle positions are alike with the rows of all entities in the order of their keys, so they
 -- answer alike.
-use Rattle.std.specs.Prelude.{◌≡◌, ℕ, Bool, List, [], ◌∷◌, ◌++◌, Option, Some, None, filter, refl}
+use Rattle.std.specs.Prelude.{◌≡◌, Bool, List, [], ◌∷◌, ◌++◌, Option, Some, None, filter, refl}
 use Rattle.std.specs.List.{flat_map}
 use Rattle.std.specs.declared.cmp.Ordering.TheVariants as order
 use Rattle.std.specs.Ordering.{ordering_then, ordering_reverse, match_ordering}
@@ -15,12 +15,13 @@ use Rattle.rule_table.specs.declared.kind.Kind.{Kind}
 use Rattle.rule_table.specs.declared.kind.Kind.TheVariants as kind
 use Rattle.rule_table.specs.Kinds.{kind_cmp}
 use Rattle.rule_table.specs.Order.{key_cmp}
-use Rattle.rule_table.specs.Answers.{Heads, bound_answer}
+use Rattle.rule_table.specs.Answers.{Heads, bound_answer, peak_answer}
 use Rattle.rule_history.specs.Answered.{local_answer}
 use Rattle.rule_table.specs.Judged.{found_all, update_of}
 use Rattle.rule_table.specs.Groups.{Each}
 use Rattle.rule_table.specs.GroupLaws.{each_append, each_weaken}
 use Rattle.rule_table.specs.CitedLaws.{both_same}
+use Rattle.rule_table.specs.Peaks.{no_peaks}
 use Rattle.rule_table.specs.Pairs.{PairRow, update_rows, vehicle_rows, vehicle_of, is_of}
 use Rattle.feed_values.specs.Snapshot.{timestamp_of}
 use Rattle.message_rules.specs.Message.{message_rules}
@@ -29,10 +30,10 @@ use Rattle.pairing_rules.specs.Agreeing.{rules_agree}
 use Rattle.pairing_rules.specs.ByKind.{AreAlike, alike-agree}
 use Rattle.pairing_rules.specs.Rows.{row_cmp, id_cmp}
 use Rattle.pairing_rules.proofs.Order.{rows_total}
-use Rattle.history_rules.specs.Rules.{bound_rules}
+use Rattle.history_rules.specs.Rules.{bound_rules, peak_rules}
 use Rattle.judging.specs.Seats.{Seat, Rising}
 use Rattle.judging.specs.Ruled.{in_rule_order}
-use Rattle.judging.specs.Whole.{entity_found}
+use Rattle.judging.specs.Whole.{rows_alone, entity_found}
 use Rattle.judging.specs.Judged.{seat_rows, update_rows_of, vehicle_rows_of, put_rows, found_at_seats}
 use Rattle.judging.proofs.Joined.{joined}
 
@@ -189,12 +190,12 @@ module _ (es : List Seat) where
       ∙ sym (vehicles_pass (is_of kind.Vehicle) (λ e. no_update e.0 (update_of e.1)) es)
 
   -- rows that are alike find the same
-  alike_found : (rows : List PairRow) → AreAlike rows (seat_rows es) → (t : Option Tables) (heads : Heads) (k : EntityKey) (e : Value entity) → entity_found t rows heads k e ≡ entity_found t (seat_rows es) heads k e
+  alike_found : (rows : List PairRow) → AreAlike rows (seat_rows es) → (t : Option Tables) (heads : Heads) (k : EntityKey) (e : Value entity) → entity_found t (rows_alone rows) heads k e ≡ entity_found t (rows_alone (seat_rows es)) heads k e
   alike_found rows alike t heads k e =
-      sym (joined t rows heads k e)
-      ∙ ap (λ ps. in_rule_order (((found_all message_rules (local_answer t k e) k e ++ found_all schedule_rules (local_answer t k e) k e) ++ ps) ++ found_all bound_rules (bound_answer (timestamp_of heads.header) heads.moment k e) k e))
+      sym (joined t (rows_alone rows) heads k e)
+      ∙ ap (λ ps. in_rule_order (((found_all message_rules (local_answer t k e) k e ++ found_all schedule_rules (local_answer t k e) k e) ++ ps) ++ (found_all bound_rules (bound_answer (timestamp_of heads.header) heads.moment k e) k e ++ found_all peak_rules (peak_answer no_peaks k e) k e)))
       (rules_agree rows (seat_rows es) k e (alike-agree rows (seat_rows es) alike k e))
-      ∙ joined t (seat_rows es) heads k e
+      ∙ joined t (rows_alone (seat_rows es)) heads k e
 
   pub all_found : (rows : List PairRow) → AreAlike rows (seat_rows es) → (t : Option Tables) (heads : Heads) (ds : List Seat) → found_at_seats t rows heads ds ≡ found_at_seats t (seat_rows es) heads ds
   all_found rows alike t heads [] = refl
@@ -204,11 +205,3 @@ module _ (es : List Seat) where
   index_alike rows is h k =
       ap (filter (is_of k)) (is ∙ sym (put_append [] (update_rows_of es) (vehicle_rows_of es)) ∙ put_rising [] kinds (all_rise es h))
       ∙ kinds_alike k
-
--- a row, by what is equal to its parts
-pub row_is : (K : Kind) (k : EntityKey) (id : List ℕ) (t u v w : Option (List ℕ)) → id ≡ k.id → t ≡ u → v ≡ w →
-    (let r : PairRow = record { kind = K; key = record { feed = k.feed; id = id; occurrence = k.occurrence }; trip = t; vehicle = v } in r) ≡ record { kind = K; key = k; trip = u; vehicle = w }
-row_is K k id t u v w named trip vehicle =
-    ap (λ i. let r : PairRow = record { kind = K; key = record { feed = k.feed; id = i; occurrence = k.occurrence }; trip = t; vehicle = v } in r) named
-    ∙ ap (λ x. let r : PairRow = record { kind = K; key = k; trip = x; vehicle = v } in r) trip
-    ∙ ap (λ x. let r : PairRow = record { kind = K; key = k; trip = u; vehicle = x } in r) vehicle

@@ -1,8 +1,8 @@
--- What answers an ask at an entity: the entity and the timetable, the headers, or the pairing rows.
+-- What answers an ask at an entity: the entity and the timetable, the headers, the pairing rows, or peaks.
 use Rattle.rule_table.specs.declared.ask.Ask.{Ask}
 use Rattle.rule_table.specs.declared.ask.Ask.TheVariants as ask
 use Rattle.judging.specs.declared.entity_answers.Answering.{Answering}
-use Rattle.judging.specs.declared.entity_answers.Answering.TheVariants.{Local, Heads, Pairs}
+use Rattle.judging.specs.declared.entity_answers.Answering.TheVariants.{Local, Heads, Pairs, Peaks}
 
 abbrev pub answered_by : Ask → Answering
 answered_by (ask.HeadNow slot) = Heads
@@ -16,4 +16,5 @@ answered_by (ask.HasTrip kind trip) = Pairs
 answered_by (ask.HasVehicle kind vehicle) = Pairs
 answered_by (ask.FirstId feed vehicle) = Pairs
 answered_by (ask.FirstOccurrence feed vehicle) = Pairs
+answered_by (ask.Peak feed vehicle) = Peaks
 answered_by _ = Local

@@ -17,7 +17,7 @@ use Rattle.rule_table.specs.Pairs.{PairRow, rows_of, update_rows, vehicle_rows, 
 use Rattle.rule_history.specs.History.{Snapshot, feed_limit}
 use Rattle.rule_history.specs.Findings.{findings}
 use Rattle.judging.specs.Seats.{Seat, seats}
-use Rattle.judging.specs.Whole.{entity_found, header_found, whole_answer}
+use Rattle.judging.specs.Whole.{rows_alone, entity_found, header_found, whole_answer}
 
 -- what is known of its feed: nothing stands before its header, and nothing changed
 abbrev pub first_heads : Value feed_header → ℕ → Heads
@@ -25,7 +25,7 @@ first_heads header moment = record { header = header; previous = None; changed =
 
 -- what is answered at an entity of such a feed
 abbrev pub first_answer : Option Tables → List PairRow → Value feed_header → ℕ → EntityKey → Value entity → Ask → Option CellValue
-first_answer t rows header moment key e = whole_answer t rows (first_heads header moment) key e
+first_answer t rows header moment key e = whole_answer t (rows_alone rows) (first_heads header moment) key e
 
 -- the pairing rows of some entities
 abbrev pub seat_rows : List Seat → List PairRow
@@ -45,12 +45,12 @@ put_rows rows (r ∷ rs) = put_rows (insert_key row_cmp rows r) rs
 
 -- the findings on a header and at entities, one entity after the other
 abbrev pub found_at_seats : Option Tables → List PairRow → Heads → List Seat → List Found
-found_at_seats t rows heads es = flat_map (λ e. entity_found t rows heads e.0 e.1) es
+found_at_seats t rows heads es = flat_map (λ e. entity_found t (rows_alone rows) heads e.0 e.1) es
 
 -- those of a snapshot of a feed: on its header, then at its entities in the order of their keys
 abbrev pub snapshot_found : Option Tables → ℕ → ℕ → Value feed_header → List (Value entity) → List Found
 snapshot_found t feed moment header es =
-    header_found t (seat_rows (seats feed es)) (first_heads header moment) feed ++ found_at_seats t (seat_rows (seats feed es)) (first_heads header moment) (seats feed es)
+    header_found t (rows_alone (seat_rows (seats feed es))) (first_heads header moment) feed ++ found_at_seats t (seat_rows (seats feed es)) (first_heads header moment) (seats feed es)
 
 -- They are the findings after the history of this one snapshot.
 abbrev pub OneSnapshot : Type 0

@@ -15,6 +15,6 @@ unfoldable pub entity_rules : List RuleId
 entity_rules = filter has_places all_rules
 
 -- how many they are
-pub entity_count : length entity_rules ≡ 45
+pub entity_count : length entity_rules ≡ 46
 unfolding entity_rules
 entity_count = refl

@@ -7,25 +7,30 @@ use Rattle.feed_values.specs.declared.cell_value.CellValue.{CellValue}
 use Rattle.timetable.specs.Timetables.{Tables}
 use Rattle.rule_table.specs.declared.ask.Ask.{Ask}
 use Rattle.rule_table.specs.declared.key.EntityKey.{EntityKey}
-use Rattle.rule_table.specs.Answers.{Heads, entity_answer, heads_answer, rows_answer}
+use Rattle.rule_table.specs.Answers.{Heads, Gathered, entity_answer, heads_answer, gathered_answer}
 use Rattle.rule_history.specs.Answered.{timetable_answer}
 use Rattle.rule_table.specs.Found.{Found}
 use Rattle.rule_table.specs.Judged.{found_all, head_found_all}
 use Rattle.rule_table.specs.Pairs.{PairRow}
+use Rattle.rule_table.specs.Peaks.{no_peaks}
 use Rattle.rule_table.specs.Table.{all_rules}
 
--- what is answered of a feed: by its headers, the timetable and the pairing rows
-abbrev pub feed_answer : Option Tables → List PairRow → Heads → Ask → Option CellValue
-feed_answer t rows heads a = option_or (heads_answer heads a) (option_or (timetable_answer t a) (rows_answer rows a))
+-- what is gathered of snapshots before which none stands: pairing rows, and no peaks
+abbrev pub rows_alone : List PairRow → Gathered
+rows_alone rows = record { rows = rows; peaks = no_peaks }
+
+-- what is answered of a feed: by its headers, the timetable, the pairing rows and the peaks
+abbrev pub feed_answer : Option Tables → Gathered → Heads → Ask → Option CellValue
+feed_answer t u heads a = option_or (heads_answer heads a) (option_or (timetable_answer t a) (gathered_answer u a))
 
 -- what is answered at an entity: by itself, and of its feed
-abbrev pub whole_answer : Option Tables → List PairRow → Heads → EntityKey → Value entity → Ask → Option CellValue
-whole_answer t rows heads key e a = option_or (entity_answer key e a) (feed_answer t rows heads a)
+abbrev pub whole_answer : Option Tables → Gathered → Heads → EntityKey → Value entity → Ask → Option CellValue
+whole_answer t u heads key e a = option_or (entity_answer key e a) (feed_answer t u heads a)
 
 -- every rule at every place of an entity
-unfoldable pub entity_found : Option Tables → List PairRow → Heads → EntityKey → Value entity → List Found
-entity_found t rows heads key e = found_all all_rules (whole_answer t rows heads key e) key e
+unfoldable pub entity_found : Option Tables → Gathered → Heads → EntityKey → Value entity → List Found
+entity_found t u heads key e = found_all all_rules (whole_answer t u heads key e) key e
 
 -- every rule at every place of a header
-unfoldable pub header_found : Option Tables → List PairRow → Heads → ℕ → List Found
-header_found t rows heads feed = head_found_all all_rules (feed_answer t rows heads) feed
+unfoldable pub header_found : Option Tables → Gathered → Heads → ℕ → List Found
+header_found t u heads feed = head_found_all all_rules (feed_answer t u heads) feed

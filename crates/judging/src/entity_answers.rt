@@ -5,7 +5,7 @@ ghost use Rattle.feed_values.specs.Views.{entity_value, feed_header_value};
 ghost use Rattle.rule_history.specs.Answered.{tables_of};
 ghost use Rattle.rule_table.specs.Asked.{ask_value};
 ghost use Rattle.judging.specs.Answering.{answered_by};
-ghost use Rattle.judging.specs.Whole.{whole_answer};
+ghost use Rattle.judging.specs.Whole.{rows_alone, whole_answer};
 
 use feed_values::{CellRef, Path};
 use history_rules::HeadAnswers;
@@ -22,6 +22,8 @@ enum Answering {
     Heads,
     /// The pairing rows.
     Pairs,
+    /// Peaks, of which there are none.
+    Peaks,
 }
 
 fn source(ask: AskRef<'_>) -> Answering
@@ -37,11 +39,12 @@ fn source(ask: AskRef<'_>) -> Answering
         | AskRef::HasVehicle(_, _)
         | AskRef::FirstId(_, _)
         | AskRef::FirstOccurrence(_, _) => Answering::Pairs,
+        AskRef::Peak(_, _) => Answering::Peaks,
         _ => Answering::Local,
     }
 }
 
-/// An entity with all that its rules ask for: what each group of rules is answered by.
+/// An entity of a first snapshot, before which its vehicle has no peak, with all that its rules ask for: what each group of rules is answered by.
 #[derive(Drop)]
 pub(crate) struct EntityAnswers<'a, P: PairView> {
     pub local: LocalAnswers<'a>,
@@ -50,7 +53,7 @@ pub(crate) struct EntityAnswers<'a, P: PairView> {
 }
 
 impl<P: PairView> Answers for EntityAnswers<'_, P> {
-    ghost answers = { λ s. whole_answer (tables_of s.local.table.now) (P.rows s.pairs.view.now)
+    ghost answers = { λ s. whole_answer (tables_of s.local.table.now) (rows_alone (P.rows s.pairs.view.now))
         (record { header = feed_header_value s.heads.now.now; previous = option_map feed_header_value (option_copied s.heads.before); changed = s.heads.changed; moment = s.heads.moment })
         s.local.key.now (entity_value s.local.entity.now) };
 
@@ -59,6 +62,7 @@ impl<P: PairView> Answers for EntityAnswers<'_, P> {
             Answering::Local => self.local.answer(ask),
             Answering::Heads => self.heads.answer(ask),
             Answering::Pairs => self.pairs.answer(ask),
+            Answering::Peaks => Some(CellRef::Missing),
         }
     }
 

@@ -5,15 +5,14 @@ ghost use Rattle.std.specs.Option.{option_map};
 ghost use Rattle.feed_values.specs.Schema.{Value};
 ghost use Rattle.feed_values.specs.Messages as messages;
 ghost use Rattle.feed_values.specs.Views.{entity_value, feed_header_value};
-ghost use Rattle.rule_table.specs.Answers.{Heads};
+ghost use Rattle.rule_table.specs.Answers.{Gathered, Heads};
 ghost use Rattle.rule_history.specs.Answered.{tables_of};
 ghost use Rattle.rule_table.specs.Judged.{found_all};
 ghost use Rattle.rule_table.specs.Marked.{marked, marked_at};
-ghost use Rattle.rule_table.specs.Pairs.{PairRow};
 ghost use Rattle.rule_table.specs.declared.key.EntityKey.{EntityKey};
 ghost use Rattle.judging.specs.Judged.{first_answer, first_heads};
 ghost use Rattle.judging.specs.Ruled.{entity_rules};
-ghost use Rattle.judging.specs.Whole.{entity_found, whole_answer};
+ghost use Rattle.judging.specs.Whole.{rows_alone, entity_found, whole_answer};
 
 use crate::entity_answers::EntityAnswers;
 use feed_values::{Entity, FeedHeader, Items};
@@ -72,6 +71,7 @@ const ENTITY_RULES: &[RuleId] = &[
     RuleId::W005,
     RuleId::W006,
     RuleId::W009,
+    RuleId::X001,
     RuleId::X002,
 ];
 
@@ -103,14 +103,15 @@ const BESIDE_TIMETABLE: &[RuleId] = &[
     RuleId::W003,
     RuleId::W006,
     RuleId::W009,
+    RuleId::X001,
     RuleId::X002,
 ];
 
 /// The rules that are to be judged at an entity with a timetable: all that have a place there, or those that don't ask it where it is
 /// absent, since the others find nothing then.
 fn rules_with(table: &Timetable) -> &'static [RuleId]
-    ensures found { (rows : List PairRow) (heads : Heads) (key : EntityKey) (e : Value messages.entity)
-        → found_all result.now (whole_answer (tables_of table.now) rows heads key e) key e ≡ entity_found (tables_of table.now) rows heads key e }
+    ensures found { (u : Gathered) (heads : Heads) (key : EntityKey) (e : Value messages.entity)
+        → found_all result.now (whole_answer (tables_of table.now) u heads key e) key e ≡ entity_found (tables_of table.now) u heads key e }
     ensures within { length result.now ≤ length entity_rules }
 {
     if table.is_present() {
@@ -147,7 +148,7 @@ fn answers_at<'a, P: PairView>(
     ensures moment { result.heads.moment ≡ moment }
     ensures key { result.local.key.now ≡ key.now }
     ensures entity { result.local.entity.now ≡ entity.now }
-    ensures answers { whole_answer (tables_of result.local.table.now) (P.rows result.pairs.view.now)
+    ensures answers { whole_answer (tables_of result.local.table.now) (rows_alone (P.rows result.pairs.view.now))
         (record { header = feed_header_value result.heads.now.now; previous = option_map feed_header_value (option_copied result.heads.before); changed = result.heads.changed; moment = result.heads.moment })
         result.local.key.now (entity_value result.local.entity.now)
         ≡ first_answer (tables_of table.now) (P.rows view.now) (feed_header_value header.now) moment key.now (entity_value entity.now) }
@@ -178,7 +179,7 @@ pub fn marks_at<P: PairView, L: Ledger>(
     tests: &mut Steps<L>,
 ) -> Result<Vec<Mark>, AllocError>
     ensures marked { IfOk result (λ marks. marked (first_answer (tables_of table.now) (P.rows view.now) (feed_header_value header.now) moment key.now (entity_value entity.now)) key.now marks.items
-        ≡ entity_found (tables_of table.now) (P.rows view.now) (first_heads (feed_header_value header.now) moment) key.now (entity_value entity.now)) }
+        ≡ entity_found (tables_of table.now) (rows_alone (P.rows view.now)) (first_heads (feed_header_value header.now) moment) key.now (entity_value entity.now)) }
     ensures ticked { OnOk result (tests.new ≡ tests.old + length entity_rules) }
     ensures most { tests.new ≤ tests.old + length entity_rules }
 {

@@ -5,6 +5,7 @@ use Rattle.rule_clear.specs.Clear.{AreClear}
 use Rattle.rule_table.specs.Judged.{found_all}
 use Rattle.rule_table.specs.Marked.{marked}
 use Rattle.judging.specs.Judged.{first_answer, first_heads}
+use Rattle.judging.specs.Whole.{rows_alone}
 use Rattle.judging.proofs.Joined.{local_same}
 use Rattle.judging.proofs.marking.marks_at.Goals as goal
 
@@ -17,7 +18,7 @@ mark_rules-requires g c =
     let k = c.args.key.now in
     let e = entity_value c.args.entity.now in
     subst (λ a. AreClear a k e c.of-clear.result) (sym c.answers_at-answers.ensures.answers)
-    (c.of-clear.ensures k (first_answer t rows header c.args.moment k e) (local_same t rows (first_heads header c.args.moment) k e))
+    (c.of-clear.ensures k (first_answer t rows header c.args.moment k e) (local_same t (rows_alone rows) (first_heads header c.args.moment) k e))
 
 pub returns-clause-ticked : goal.returns-clause-ticked
 returns-clause-ticked g c = omega (arith, c.in_ok-mark_rules.ensures.ticked, c.tick_others.ensures)
@@ -35,4 +36,4 @@ returns-clause-marked g c =
     let none : c.new-marks.result.items ≡ [] = search rules in
     let found = rw none at c.in_ok-mark_rules.ensures.found in
     subst (λ a. marked a k c.mark_rules.new.out.items ≡ found_all c.rules_with-rules.result.now a k e) c.answers_at-answers.ensures.answers found
-    ∙ c.rules_with-rules.ensures.found rows (first_heads header c.args.moment) k e
+    ∙ c.rules_with-rules.ensures.found (rows_alone rows) (first_heads header c.args.moment) k e

@@ -11,7 +11,7 @@ use Rattle.judging.proofs.marking.rules_with.Goals as goal
 
 pub returns-then-is_present-clause-found : goal.returns-then-is_present-clause-found
 unfolding entity_found
-returns-then-is_present-clause-found c rows heads key e = placed (whole_answer (tables_of c.args.table.now) rows heads key e) key e all_rules
+returns-then-is_present-clause-found c u heads key e = placed (whole_answer (tables_of c.args.table.now) u heads key e) key e all_rules
 
 pub returns-then-is_present-clause-within : goal.returns-then-is_present-clause-within
 returns-then-is_present-clause-within c = omega (arith, entity_count)
@@ -21,6 +21,6 @@ returns-else-is_present-clause-within c = omega (arith, entity_count)
 
 pub returns-else-is_present-clause-found : goal.returns-else-is_present-clause-found
 unfolding entity_rules
-returns-else-is_present-clause-found c rows heads key e =
+returns-else-is_present-clause-found c u heads key e =
     let absent : tables_of c.args.table.now ≡ None = search rules in
-    subst (λ (t : Option Tables). found_all beside_timetable (whole_answer t rows heads key e) key e ≡ entity_found t rows heads key e) (sym absent) (found_beside rows heads key e)
+    subst (λ (t : Option Tables). found_all beside_timetable (whole_answer t u heads key e) key e ≡ entity_found t u heads key e) (sym absent) (found_beside u heads key e)

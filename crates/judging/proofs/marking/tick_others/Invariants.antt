@@ -6,6 +6,6 @@ abbrev pub invariant-loop : goal.invariant-loop
 invariant-loop g l =
     record {
       ticked : l.tests + l.judged ≡ l.fn.tests + l.counter;
-      last : l.end ≡ 45;
-      within : l.counter ≤ 45;
+      last : l.end ≡ 46;
+      within : l.counter ≤ 46;
     }
