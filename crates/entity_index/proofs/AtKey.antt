@@ -1,9 +1,8 @@
 -- What lists of entries have under keys.
-use Rattle.std.specs.Prelude.{◌≡◌, ℕ, Bool, true, false, cond, List, [], ◌∷◌, map, filter, length, Option, Some, None, option_map, is_some, refl}
+use Rattle.std.specs.Prelude.{◌≡◌, Bool, true, false, cond, List, [], ◌∷◌, map, filter, length, Some, None, option_map, is_some, refl}
 use Rattle.std.specs.List.{find}
 use Rattle.std.specs.Option.{option_or}
 use Rattle.std.proofs.Common.{◌∙◌, ap, sym, subst, arith}
-use Rattle.std.specs.declared.cmp.Ordering.{Ordering}
 use Rattle.std.specs.declared.cmp.Ordering.TheVariants as order
 use Rattle.std.specs.Ordering.{match_ordering, ordering_reverse}
 use Rattle.std.specs.BTreeMap.{insert_entry}
@@ -15,7 +14,7 @@ use Rattle.rule_table.specs.GroupLaws.{each_weaken}
 use Rattle.rule_history.specs.History.{ordered_after}
 use Rattle.rule_history.proofs.Keyed.{insert-mapped}
 use Rattle.engine_laws.specs.HeldFeeds.{AreApart}
-use Rattle.engine_laws.proofs.Sorted.{keys_total, key_cmp_self, cmp_equal, less_other}
+use Rattle.engine_laws.proofs.Sorted.{keys_total, key_cmp_self, cmp_equal}
 use Rattle.engine_laws.proofs.Spots.{is_false, key_is, key_self, key_other}
 use Rattle.entity_index.specs.Held.{at_key}
 

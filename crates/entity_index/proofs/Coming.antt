@@ -11,8 +11,6 @@ use Rattle.engine_laws.proofs.Spots.{is_false, key_is, key_other}
 use Rattle.entity_index.specs.Held.{at_key}
 use Rattle.entity_index.specs.declared.incoming.Incoming.{Incoming}
 use Rattle.entity_index.specs.Seats.{HeldSeat}
-use Rattle.entity_index.specs.Lists.{Lists}
-use Rattle.entity_index.specs.Changes.{parts_come}
 use Rattle.entity_index.specs.Put.{Under, come, put_one, put_all, seated, seat_one, seat_all}
 use Rattle.entity_index.proofs.AtKey.{at_first, at_later, none_at}
 

@@ -1,5 +1,5 @@
 -- What is held of feeds, in their rooms.
-use Rattle.std.specs.Prelude.{◌≡◌, ℕ, zero, suc, ◌<◌, ◌≤◌, ◌==◌, Bool, true, false, cond, List, [], ◌∷◌, ◌++◌, map, length, get_or, Option, Some, None, option_map, IfSome, refl}
+use Rattle.std.specs.Prelude.{◌≡◌, ℕ, zero, suc, ◌<◌, ◌≤◌, ◌==◌, Bool, true, false, List, [], ◌∷◌, ◌++◌, map, length, get_or, Option, Some, None, option_map, IfSome, refl}
 use Rattle.std.proofs.Common.{◌∙◌, ap, sym, subst, arith, eq-eqb, set}
 use Rattle.std.proofs.lemmas.List.{get_or-set_same, get_or-set_other, length-set}
 use borrow.Author.Tests.{eqb-true}
@@ -7,8 +7,8 @@ use Rattle.feed_values.specs.Snapshot.{entity_of, entity_payloads}
 use Rattle.rule_table.specs.declared.key.EntityKey.{EntityKey}
 use Rattle.rule_history.specs.History.{Keyed, entities_in, ordered_after}
 use Rattle.rule_history.specs.Answered.{payload_under}
-use Rattle.entity_index.specs.Held.{HeldEntities, at_key, held_at, entities_before, parts_at}
-use Rattle.entity_index.specs.Seats.{HeldSeat, Seats, AreSeats, parts_in, places_of}
+use Rattle.entity_index.specs.Held.{HeldEntities, KeyedValues, at_key, held_at, entities_before, parts_at, values_of}
+use Rattle.entity_index.specs.Seats.{HeldSeat, Seats, AreSeated, AreSeats, parts_in, places_of, values_in}
 use Rattle.entity_index.specs.Rooms.{HeldRoom, AreAtPlaces, in_room, in_rooms, room_of}
 use Rattle.entity_index.proofs.AtKey.{at-mapped}
 use Rattle.entity_index.proofs.Taking.{places, keyed, entities-are, payload-at, seat-place, seat_is}
@@ -92,6 +92,22 @@ module _ (f : ℕ) (qs : List (List ℕ)) (phase : Bool) (es : Seats) (are : Are
       mapped [] = refl
       mapped (d ∷ ds) = ap (λ xs. d.0 ∷ xs) (mapped ds)
 
+  -- the values are what these mean
+  pub values-there : values_in es ≡ values_of (ordered_after [] (keyed f qs))
+  values-there = each es are.seats_are ∙ ap meant are.places_are ∙ sym (ap values_of (entities-are f qs) ∙ mapped (ordered_after [] (places f qs)))
+    where
+      meant : List (EntityKey × ℕ) → KeyedValues
+      meant [] = []
+      meant (d ∷ ds) = (d.0, entity_of (get_or qs d.1 [])) ∷ meant ds
+
+      each : (ds : Seats) → AreSeated qs phase ds → values_in ds ≡ meant (places_of ds)
+      each [] h = refl
+      each (d ∷ ds) h = ap (λ v. (d.0, v) ∷ values_in ds) h.0.value ∙ ap (λ xs. (d.0, entity_of (get_or qs d.1.place [])) ∷ xs) (each ds h.1)
+
+      mapped : (ds : List (EntityKey × ℕ)) → values_of (map {B = Keyed} (λ e. (e.0, get_or qs e.1 [])) ds) ≡ meant ds
+      mapped [] = refl
+      mapped (d ∷ ds) = ap (λ xs. (d.0, entity_of (get_or qs d.1 [])) ∷ xs) (mapped ds)
+
 pub keys-seats : (es : Seats) → map (λ e. e.0) es ≡ map (λ e. e.0) (parts_in es)
 keys-seats [] = refl
 keys-seats (e ∷ es) = ap (λ xs. e.0 ∷ xs) (keys-seats es)
@@ -122,3 +138,6 @@ module _ (index : List HeldEntities) (rooms : List (Option HeldRoom)) (f : ℕ) 
     pub value-under : (k : EntityKey) (o : Option HeldSeat) → o ≡ at_key k room.seats → option_map (λ (s : HeldSeat). s.value) o ≡ option_map entity_of (payload_under k (entities_before f (held_at index f).bytes))
     value-under k o is =
         ap (option_map (λ (s : HeldSeat). s.value)) is ∙ value-there room.feed (entity_payloads room.bytes) room.phase room.seats are k ∙ ap (λ es. option_map entity_of (payload_under k es)) entities-held
+
+    pub values-under : values_in room.seats ≡ values_of (entities_before f (held_at index f).bytes)
+    values-under = values-there room.feed (entity_payloads room.bytes) room.phase room.seats are ∙ ap values_of entities-held

@@ -19,10 +19,9 @@ use Rattle.rule_history.specs.History.{Keyed, id_of, count_id, keyed_after, orde
 use Rattle.rule_history.specs.Changed.{is_payload}
 use Rattle.rule_history.specs.Answered.{payload_under}
 use Rattle.rule_history.proofs.Keyed.{rising_after}
-use Rattle.engine_laws.specs.HeldFeeds.{AreApart}
 use Rattle.engine_laws.specs.Delta.{is_other}
 use Rattle.engine_laws.proofs.Sorted.{apart_rising}
-use Rattle.engine_laws.proofs.Spots.{is_false, key_is, key_self, key_other}
+use Rattle.engine_laws.proofs.Spots.{is_false, key_is, key_other}
 use Rattle.entity_index.specs.Seats.{key_after, placed_after, occurrences_after, HeldSeat, Seats, places_of, AreSeats}
 use Rattle.entity_index.specs.Held.{at_key}
 use Rattle.entity_index.specs.Changes.{fresh_from}
@@ -173,6 +172,10 @@ same_ids (p ∷ ps) (q ∷ qs) h =
     let e = and_parts (bytes_eq p q) (pointwise bytes_eq ps qs) h in
     ap (λ b. b && pointwise bytes_eq (map id_of ps) (map id_of qs)) ((bytes_eq-Decides (id_of p) (id_of q)).1 (ap id_of ((bytes_eq-Decides p q).0 e.0))) ∙ same_ids ps qs e.1
 
+-- one byte string has one id
+pub same_id : (p q : List ℕ) → bytes_eq p q ≡ true → bytes_eq (id_of p) (id_of q) ≡ true
+same_id p q h = (bytes_eq-Decides (id_of p) (id_of q)).1 (ap id_of ((bytes_eq-Decides p q).0 h))
+
 pub other_ids : (ps qs : List (List ℕ)) → pointwise bytes_eq (map id_of ps) (map id_of qs) ≡ false → pointwise bytes_eq ps qs ≡ false
 other_ids ps qs h = is_false (pointwise bytes_eq ps qs) (λ e. let s = same_ids ps qs e in clash s)
   where
@@ -196,14 +199,6 @@ module _ (qs ps : List (List ℕ)) (i : ℕ) (l : i < length qs) (m : i < length
 
 pub ids_end : (qs ps : List (List ℕ)) (i : ℕ) (all : Bool) → length qs ≤ i → length ps ≤ i → pointwise bytes_eq (map id_of (drop i qs)) (map id_of (drop i ps)) ≡ all → true ≡ all
 ids_end qs ps i all l m h = sym (ap (λ xs. pointwise bytes_eq (map id_of xs) (map id_of (drop i ps))) (drop_all i qs l) ∙ ap (λ xs. pointwise bytes_eq [] (map id_of xs)) (drop_all i ps m)) ∙ h
-
-pub not_true : (b : Bool) → not b ≡ true → b ≡ false
-not_true true h = cc
-not_true false h = refl
-
-pub not_false : (b : Bool) → not b ≡ false → b ≡ true
-not_false true h = refl
-not_false false h = cc
 
 -- with the same ids in the same order: an entity is other exactly where its byte string is
 module _ (f : ℕ) (qs ps : List (List ℕ)) (same : map id_of qs ≡ map id_of ps) where

@@ -1,14 +1,14 @@
 -- The keys of a snapshot's entities with their places.
-use Rattle.std.specs.Prelude.{◌≡◌, ℕ, zero, suc, ◌+◌, ◌-◌, ◌<◌, ◌≤◌, Bool, true, false, cond, List, [], ◌∷◌, ◌++◌, map, filter, take, length, get_or, Option, Some, None, option_map, bytes_eq, refl}
+use Rattle.std.specs.Prelude.{◌≡◌, ℕ, zero, suc, ◌+◌, ◌-◌, ◌<◌, ◌≤◌, Bool, true, false, cond, List, [], ◌∷◌, ◌++◌, map, filter, take, length, get_or, Some, bytes_eq, refl}
 use Rattle.std.specs.Cmp.Lexicographic.{pointwise}
-use Rattle.std.proofs.Common.{◌∙◌, ap, sym, subst, arith, append_assoc, append-nil}
+use Rattle.std.proofs.Common.{◌∙◌, ap, sym, arith, append_assoc, append-nil}
 use Rattle.std.proofs.lemmas.List.{map-append}
 use Rattle.std.proofs.lemmas.Slice.Eq.{bytes_eq-Decides}
 use Rattle.std.proofs.lemmas.Bool.{and_parts}
 use Rattle.rule_table.specs.declared.key.EntityKey.{EntityKey}
 use Rattle.rule_table.specs.Groups.{Each}
 use Rattle.rule_table.specs.Order.{same_key}
-use Rattle.rule_history.specs.History.{Keyed, id_of, count_id, keyed_after, ordered_after}
+use Rattle.rule_history.specs.History.{Keyed, id_of, count_id, keyed_after}
 use Rattle.engine_laws.specs.HeldFeeds.{AreApart}
 use Rattle.engine_laws.specs.Delta.{is_other}
 use Rattle.engine_laws.proofs.Spots.{is_false, key_is, key_self}

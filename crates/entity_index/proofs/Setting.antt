@@ -1,8 +1,8 @@
 -- What is under keys where something is set, put in or taken out under one of them.
-use Rattle.std.specs.Prelude.{◌≡◌, ℕ, ◌∷◌, map, Bool, true, false, cond, List, [], Option, Some, None, option_map, IsSome, if◌then◌else◌, refl}
+use Rattle.std.specs.Prelude.{◌≡◌, ℕ, ◌∷◌, map, Bool, true, false, cond, List, [], Some, None, option_map, if◌then◌else◌, refl}
 use Rattle.std.specs.BTreeMap.{is_at}
 use Rattle.std.specs.Map.{lookup, set_value}
-use Rattle.std.proofs.Common.{◌∙◌, ap, sym, subst}
+use Rattle.std.proofs.Common.{◌∙◌, ap, sym}
 use Rattle.rule_table.specs.declared.key.EntityKey.{EntityKey}
 use Rattle.rule_table.specs.Groups.{Each}
 use Rattle.rule_table.specs.Order.{key_cmp, same_key}

@@ -1,5 +1,5 @@
 -- What is held of a feed once a snapshot was taken in.
-use Rattle.std.specs.Prelude.{◌≡◌, ℕ, Bool, true, false, not, List, [], ◌∷◌, map, Some, None, option_map, bytes_eq, refl}
+use Rattle.std.specs.Prelude.{◌≡◌, ℕ, Bool, true, false, not, List, [], ◌∷◌, map, Some, None, bytes_eq, refl}
 use Rattle.std.specs.Cmp.Lexicographic.{pointwise}
 use Rattle.std.specs.List.{AllByRecursion}
 use Rattle.std.specs.List.Sorted.{IsStrictlySortedBy}
@@ -16,7 +16,7 @@ use Rattle.rule_history.specs.History.{id_of, entities_in}
 use Rattle.entity_index.specs.declared.incoming.Incoming.{Incoming}
 use Rattle.entity_index.specs.Held.{KeyedParts, at_key}
 use Rattle.entity_index.specs.Changes.{AreIncoming, parts_then}
-use Rattle.entity_index.specs.Seats.{HeldSeat, Seats, AreSeats, IsSeat, occurrences_after, parts_in, placed_after}
+use Rattle.entity_index.specs.Seats.{Seats, AreSeats, IsSeat, occurrences_after, parts_in, placed_after}
 use Rattle.entity_index.specs.Put.{put_all, seat_all, staying}
 use Rattle.entity_index.proofs.Placed.{ids_equal, same_places, same_occurrences}
 use Rattle.entity_index.proofs.Taking.{seats_hold, none_hold, seat-place, all_taken, taken_are, taken-parts, first_taken, other_taken, same_taken}

@@ -1,7 +1,6 @@
 -- What is held once a snapshot was taken in.
 use Rattle.std.specs.Prelude.{◌≡◌, ℕ, ◌+◌, Bool, true, false, not, cond, List, [], ◌∷◌, map, filter, get_or, Option, Some, None, option_map, is_some, unwrap_or, bytes_eq, refl}
 use mathlib.Core.Bool.{beq}
-use Rattle.std.specs.List.{find}
 use Rattle.std.specs.Option.{option_or}
 use Rattle.std.proofs.Common.{◌∙◌, ap, sym, subst, arith}
 use Rattle.std.proofs.lemmas.Slice.Eq.{bytes_eq-Decides}
@@ -19,11 +18,11 @@ use Rattle.rule_history.proofs.Keyed.{rising_after}
 use Rattle.engine_laws.specs.HeldFeeds.{AreApart}
 use Rattle.engine_laws.specs.Delta.{is_other}
 use Rattle.entity_index.specs.Seats.{placed_after, HeldSeat, Seats, places_of, parts_in, IsSeat, AreSeats}
-use Rattle.entity_index.specs.Held.{at_key, KeyedParts, parts_at}
+use Rattle.entity_index.specs.Held.{at_key, parts_at}
 use Rattle.entity_index.specs.declared.incoming.Incoming.{Incoming}
 use Rattle.entity_index.specs.Lists.{Lists, no_lists}
-use Rattle.entity_index.specs.Changes.{parts_come, parts_then}
-use Rattle.entity_index.specs.Put.{Under, come, put_all, seated, seat_all, staying}
+use Rattle.entity_index.specs.Changes.{parts_then}
+use Rattle.entity_index.specs.Put.{come, put_all, seated, seat_all, staying}
 use Rattle.entity_index.proofs.AtKey.{at-mapped, at-ordered, each_at, keys-some, keys-apart, apart-filter, at-filter, gone-filter, ordered-mapped, rising-mapped, same_entries}
 use Rattle.entity_index.proofs.Placed.{placed_apart, placed-keys, keyed-placed}
 use Rattle.entity_index.proofs.Coming.{keyed_came, find-keyed, come_key, put_found, seat_found, put-found, seat-found}

@@ -1,10 +1,10 @@
 -- Under the key of what is new or has other bytes is what stands at its place.
-use Rattle.std.specs.Prelude.{◌≡◌, ℕ, ◌+◌, ◌-◌, ◌<◌, List, [], length, get_or, take, Option, Some, option_map}
-use Rattle.std.proofs.Common.{◌∙◌, ap, arith, subst}
+use Rattle.std.specs.Prelude.{◌≡◌, ℕ, ◌+◌, ◌-◌, ◌<◌, List, [], length, get_or, take, Some, option_map}
+use Rattle.std.proofs.Common.{◌∙◌, ap, arith}
 use Rattle.feed_values.specs.Snapshot.{entity_payloads}
 use Rattle.rule_table.specs.declared.key.EntityKey.{EntityKey}
 use Rattle.entity_index.specs.Held.{at_key, entities_before}
-use Rattle.entity_index.specs.Changes.{fresh_from, fresh_keys, fresh_places, keyed_in}
+use Rattle.entity_index.specs.Changes.{fresh_keys, keyed_in}
 use Rattle.entity_index.specs.Laws.{FreshAreThere}
 use Rattle.entity_index.specs.Seats.{key_after}
 use Rattle.entity_index.proofs.Placed.{IsPlace, fresh_place, length-fresh-keys, there_at}

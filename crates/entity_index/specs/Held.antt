@@ -1,6 +1,9 @@
 -- What is held of feeds.
-use Rattle.std.specs.Prelude.{ℕ, List, [], Option, Some, None, option_map, get_or}
+use Rattle.std.specs.Prelude.{ℕ, List, [], map, Option, Some, None, option_map, get_or}
 use Rattle.std.specs.List.{find}
+use Rattle.feed_values.specs.Schema.{Value}
+use Rattle.feed_values.specs.Messages.{entity}
+use Rattle.feed_values.specs.Snapshot.{entity_of}
 use Rattle.rule_table.specs.declared.key.EntityKey.{EntityKey}
 use Rattle.rule_table.specs.Order.{same_key}
 use Rattle.rule_history.specs.History.{Keyed, entities_in}
@@ -26,6 +29,14 @@ held_at list f = get_or list f nothing
 abbrev pub entities_before : ℕ → Option (List ℕ) → List Keyed
 entities_before f None = []
 entities_before f (Some bytes) = entities_in f bytes
+
+-- values of entities under their keys
+abbrev pub KeyedValues : Type 0
+KeyedValues = List (EntityKey × Value entity)
+
+-- entities under their keys, each as what its byte string means
+abbrev pub values_of : List Keyed → KeyedValues
+values_of es = map (λ e. (e.0, entity_of e.1)) es
 
 -- what a list has under a key
 abbrev pub at_key : {A : Type 0} → EntityKey → List (EntityKey × A) → Option A

@@ -1,5 +1,5 @@
 -- Which of the entities that are held were met, by place.
-use Rattle.std.specs.Prelude.{ℕ, Bool, true, List, Option, Some, None, slice_set}
+use Rattle.std.specs.Prelude.{Bool, true, List, Option, Some, None, slice_set}
 use Rattle.entity_index.specs.Seats.{HeldSeat}
 
 -- one more was met, if it is held

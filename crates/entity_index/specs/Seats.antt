@@ -7,7 +7,7 @@ use Rattle.rule_table.specs.declared.key.EntityKey.{EntityKey}
 use Rattle.rule_table.specs.Groups.{Each}
 use Rattle.rule_history.specs.History.{id_of, count_id, ordered_after}
 use Rattle.entity_index.specs.Lists.{Lists}
-use Rattle.entity_index.specs.Held.{KeyedParts}
+use Rattle.entity_index.specs.Held.{KeyedParts, KeyedValues}
 
 -- an entity's place in its snapshot, its phase, its value and what stands at it
 pub record HeldSeat : Type 0 where
@@ -21,6 +21,9 @@ Seats = List (EntityKey × HeldSeat)
 
 abbrev pub parts_in : Seats → KeyedParts
 parts_in es = map (λ e. (e.0, e.1.parts)) es
+
+abbrev pub values_in : Seats → KeyedValues
+values_in es = map (λ e. (e.0, e.1.value)) es
 
 abbrev pub places_of : Seats → List (EntityKey × ℕ)
 places_of es = map (λ e. (e.0, e.1.place)) es

@@ -4,13 +4,13 @@ ghost use Rattle.feed_values.specs.Snapshot.{entity_of};
 ghost use Rattle.feed_values.specs.Views.{entity_value};
 ghost use Rattle.rule_history.specs.Answered.{payload_under};
 ghost use Rattle.entity_index.specs.Lists.{list_of, no_lists};
-ghost use Rattle.entity_index.specs.Held.{entities_before, held_at, nothing, parts_at};
+ghost use Rattle.entity_index.specs.Held.{entities_before, held_at, nothing, parts_at, values_of};
 ghost use Rattle.entity_index.specs.Changes.{AreIncoming, IsChanges, emptied, replaced, with_part};
 ghost use Rattle.entity_index.specs.Rooms.{AreAtPlaces, in_room, room_of};
 
 use crate::comparing::{compared, first_changes};
 use crate::incoming::{Changes, Incoming};
-use crate::iters::{KeysIter, PartsIter};
+use crate::iters::{EntitiesIter, KeysIter, PartsIter};
 use crate::parts::Parts;
 use crate::renewing::{first_room, next_room, set_in, take_in};
 use crate::room::Room;
@@ -255,6 +255,18 @@ impl EntityIndex {
             None => KeysIter { keys: None },
             Some(room) => KeysIter {
                 keys: Some(room.entries.keys()),
+            },
+        }
+    }
+
+    /// The keys of a feed's entities, each once, in their order, with the entities.
+    pub fn entities(&self, feed: u8) -> EntitiesIter<'_>
+        ensures { result ≡ values_of (entities_before feed (held_at self.now feed).bytes) }
+    {
+        match room_of(&self.rooms, feed) {
+            None => EntitiesIter { entries: None },
+            Some(room) => EntitiesIter {
+                entries: Some(room.entries.iter()),
             },
         }
     }

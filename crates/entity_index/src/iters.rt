@@ -1,10 +1,11 @@
 //! What is held of a feed, handed out in the order of keys.
 ghost use Rattle.std.specs.Prelude.{◌≡◌};
 ghost use Rattle.std.specs.Iterator.{YieldsFirstBy, YieldsFirstRef, item_count};
-ghost use Rattle.entity_index.specs.Handed.{keyed_parts};
+ghost use Rattle.entity_index.specs.Handed.{keyed_parts, keyed_value};
 
 use crate::parts::Parts;
 use crate::room::Seat;
+use feed_values::Entity;
 use rule_table::EntityKey;
 use std::collections::btree_map::{Iter, Keys};
 use std::marker::Model;
@@ -69,6 +70,40 @@ impl<'a> Iterator for PartsIter<'a> {
             Some(entries) => {
                 let (key, seat) = entries.next()?;
                 Some((key, seat.parts()))
+            }
+        }
+    }
+}
+
+/// The keys that are left to hand out, in their order, each with its entity. Contracts see it as the list of them. It takes no memory.
+#[derive(Drop)]
+pub struct EntitiesIter<'a> {
+    pub(crate) entries: Option<Iter<'a, EntityKey, Seat>>,
+}
+
+impl<'a> Model for EntitiesIter<'a> {
+    ghost use Rattle.entity_index.specs.Held.{KeyedValues};
+    ghost use Rattle.entity_index.specs.Seats.{values_in};
+    ghost use Rattle.entity_index.specs.Handed.{listed};
+
+    ghost Value = { KeyedValues };
+
+    ghost view = { λ s. values_in (listed s.entries) };
+}
+
+impl<'a> Iterator for EntitiesIter<'a> {
+    type Item = (&'a EntityKey, &'a Entity);
+
+    ghost next_gives = { YieldsFirstBy keyed_value (λ left. left) };
+
+    ghost remaining = { item_count (λ left. left) };
+
+    fn next(&mut self) -> Option<(&'a EntityKey, &'a Entity)> {
+        match &mut self.entries {
+            None => None,
+            Some(entries) => {
+                let (key, seat) = entries.next()?;
+                Some((key, seat.entity()))
             }
         }
     }

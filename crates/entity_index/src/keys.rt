@@ -1,5 +1,5 @@
 //! The keys of a snapshot's entities.
-ghost use Rattle.std.specs.Prelude.{◌≡◌, [], IfOk, map, bytes_eq};
+ghost use Rattle.std.specs.Prelude.{◌≡◌, ◌<◌, [], IfOk, map, length, get_or, bytes_eq};
 ghost use Rattle.std.specs.Cmp.Lexicographic.{pointwise};
 ghost use Rattle.feed_values.specs.Snapshot.{entity_payloads};
 ghost use Rattle.rule_history.specs.History.{id_of};
@@ -36,6 +36,18 @@ pub(crate) fn keys_by_place(
     Ok(keys)
 }
 
+/// Whether the entities of two snapshots at a place have one id. Where their bytes are the same they have, and no id is read.
+fn have_same_id(old: &Kept, new: &Kept, place: usize) -> bool
+    requires old { place < length (entity_payloads old.now) }
+    requires new { place < length (entity_payloads new.now) }
+    ensures { result ≡ bytes_eq (id_of (get_or (entity_payloads old.now) place [])) (id_of (get_or (entity_payloads new.now) place [])) }
+{
+    if old.entity(place) == new.entity(place) {
+        return true;
+    }
+    old.entity_id(place) == new.entity_id(place)
+}
+
 /// Whether two snapshots have entities of the same ids in the same order, which then have the same keys.
 pub(crate) fn have_same_ids(old: &Kept, new: &Kept) -> bool
     ensures { result ≡ pointwise bytes_eq (map id_of (entity_payloads old.now)) (map id_of (entity_payloads new.now)) }
@@ -44,7 +56,7 @@ pub(crate) fn have_same_ids(old: &Kept, new: &Kept) -> bool
         return false;
     }
     for place in 0..new.len() {
-        if old.entity_id(place) != new.entity_id(place) {
+        if !have_same_id(old, new, place) {
             return false;
         }
     }

@@ -21,6 +21,6 @@ mod room;
 
 pub use incoming::{Changes, Incoming};
 pub use index::EntityIndex;
-pub use iters::{KeysIter, PartsIter};
+pub use iters::{EntitiesIter, KeysIter, PartsIter};
 pub use laws::{fresh_are_tested, fresh_are_there};
 pub use parts::Parts;

@@ -8,13 +8,13 @@ use std::alloc::Global;
 use std::marker::Model;
 
 /// What stands at an entity, in four lists by number: 0 of the rules on the entity by itself and with the timetable, 1 of those with pairing
-/// rows, 2 of those by bounds, and 3 of further ones. Contracts see them as the four lists.
+/// rows, 2 of those by bounds, and 3 of those by peaks. Contracts see them as the four lists.
 #[derive(Drop)]
 pub struct Parts {
     local: Items<Standing>,
     paired: Items<Standing>,
     bounded: Items<Standing>,
-    further: Items<Standing>,
+    peaked: Items<Standing>,
 }
 
 impl Model for Parts {
@@ -22,7 +22,7 @@ impl Model for Parts {
 
     ghost Value = { Lists };
 
-    ghost view = { λ p. record { local = p.local; paired = p.paired; bounded = p.bounded; further = p.further } };
+    ghost view = { λ p. record { local = p.local; paired = p.paired; bounded = p.bounded; peaked = p.peaked } };
 }
 
 impl Parts {
@@ -34,7 +34,7 @@ impl Parts {
             local: Items::new(alloc),
             paired: Items::new(alloc),
             bounded: Items::new(alloc),
-            further: Items::new(alloc),
+            peaked: Items::new(alloc),
         }
     }
 
@@ -47,7 +47,7 @@ impl Parts {
             0 => &self.local,
             1 => &self.paired,
             2 => &self.bounded,
-            _ => &self.further,
+            _ => &self.peaked,
         }
     }
 
@@ -60,7 +60,7 @@ impl Parts {
             0 => self.local = list,
             1 => self.paired = list,
             2 => self.bounded = list,
-            _ => self.further = list,
+            _ => self.peaked = list,
         }
     }
 }

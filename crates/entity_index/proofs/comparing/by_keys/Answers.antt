@@ -1,12 +1,11 @@
-use Rattle.std.proofs.Common.{◌≡◌, ◌<◌, ◌≤◌, ◌+◌, ◌∙◌, ◌++◌, ◌∷◌, ℕ, List, [], ap, sym, subst, not, cond, true, false, map, filter, take, drop, length, get_or, arith, rules}
+use Rattle.std.proofs.Common.{◌<◌, ◌≤◌, ◌∙◌, ◌++◌, ◌∷◌, List, [], ap, sym, subst, not, cond, false, map, filter, take, length, get_or, arith, rules}
 use Rattle.std.proofs.lemmas.List.{take_more, take_all, length-replicate}
 use Rattle.feed_values.specs.Snapshot.{entity_payloads}
 use Rattle.rule_table.specs.declared.key.EntityKey.{EntityKey}
-use Rattle.rule_history.specs.History.{keyed_after, entities_in}
+use Rattle.rule_history.specs.History.{entities_in}
 use Rattle.engine_laws.specs.Delta.{is_other}
 use Rattle.entity_index.specs.Held.{at_key}
 use Rattle.entity_index.specs.Changes.{fresh_from, keyed_in}
-use Rattle.entity_index.specs.Met.{met_with}
 use Rattle.entity_index.specs.Rooms.{HeldRoom}
 use Rattle.entity_index.specs.Seats.{AreSeats}
 use Rattle.entity_index.proofs.Finding.{AreMet, here, gone_is, key_at_place, keys_end, keys_more, length-keys, length-met, met_more, none_were, other_ids, places_end, places_more}

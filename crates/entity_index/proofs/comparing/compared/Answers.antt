@@ -1,4 +1,4 @@
-use Rattle.std.proofs.Common.{◌≡◌, ◌∙◌, ap, sym, bytes_eq, map}
+use Rattle.std.proofs.Common.{◌∙◌, ap, sym, bytes_eq, map}
 use Rattle.std.specs.Cmp.Lexicographic.{pointwise}
 use Rattle.feed_values.specs.Snapshot.{entity_payloads}
 use Rattle.rule_history.specs.History.{id_of}

@@ -1,4 +1,4 @@
-use Rattle.std.proofs.Common.{◌≡◌, ◌<◌, ◌∙◌, ◌++◌, ◌∷◌, List, [], ap, refl, true, length, get_or, arith}
+use Rattle.std.proofs.Common.{◌<◌, ◌∙◌, ◌++◌, ◌∷◌, List, [], ap, refl, true, length, get_or, arith}
 use Rattle.feed_values.specs.Snapshot.{entity_payloads}
 use Rattle.rule_table.specs.declared.key.EntityKey.{EntityKey}
 use Rattle.entity_index.proofs.Finding.{key_at_place, keys_more, length-keys, places_more}

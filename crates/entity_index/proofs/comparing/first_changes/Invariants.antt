@@ -2,7 +2,7 @@ use Rattle.std.proofs.Common.{◌≡◌, ◌++◌, [], map, filter, take, drop, 
 use Rattle.feed_values.specs.Snapshot.{entity_payloads}
 use Rattle.rule_history.specs.History.{keyed_after}
 use Rattle.engine_laws.specs.Delta.{is_other}
-use Rattle.entity_index.specs.Changes.{fresh_from, fresh_places, fresh_keys, keyed_in}
+use Rattle.entity_index.specs.Changes.{fresh_from, keyed_in}
 use Rattle.entity_index.proofs.comparing.first_changes.Given as goal
 
 abbrev pub invariant-loop-place : goal.invariant-loop-place

@@ -1,4 +1,4 @@
-use Rattle.std.proofs.Common.{◌≡◌, ◌<◌, ◌∙◌, ◌++◌, ◌∷◌, ℕ, List, [], ap, sym, subst, cond, not, true, map, length, get_or, bytes_eq, arith}
+use Rattle.std.proofs.Common.{◌<◌, ◌∙◌, ◌++◌, ◌∷◌, ℕ, List, [], ap, sym, subst, cond, not, true, map, length, get_or, bytes_eq, arith}
 use Rattle.feed_values.specs.Snapshot.{entity_payloads}
 use Rattle.rule_table.specs.declared.key.EntityKey.{EntityKey}
 use Rattle.rule_history.specs.History.{id_of}

@@ -1,4 +1,4 @@
-use Rattle.std.proofs.Common.{◌≡◌, ◌∙◌, ap}
+use Rattle.std.proofs.Common.{◌∙◌, ap}
 use Rattle.entity_index.specs.Rooms.{room_of}
 use Rattle.entity_index.proofs.Feeds.{one_more}
 use Rattle.entity_index.proofs.index.make_place.Goals as goal

@@ -1,8 +1,8 @@
-use Rattle.std.proofs.Common.{◌≡◌, ◌<◌, ◌≤◌, ◌∙◌, List, Option, None, ap, sym, subst, refl, length, arith}
+use Rattle.std.proofs.Common.{◌≡◌, ◌<◌, ◌≤◌, ◌∙◌, None, ap, sym, subst, refl, length, arith}
 use Rattle.std.specs.Prelude.{IfSome}
 use Rattle.std.proofs.lemmas.List.{get_or_default}
 use Rattle.entity_index.specs.Changes.{with_part}
-use Rattle.entity_index.specs.Rooms.{HeldRoom, in_room, room_of}
+use Rattle.entity_index.specs.Rooms.{HeldRoom, in_room}
 use Rattle.entity_index.proofs.Feeds.{none_past, placed_here, placed_other, placed_at}
 use Rattle.entity_index.proofs.index.set_in_room.Goals as goal
 

@@ -1,10 +1,10 @@
 use Rattle.std.specs.Prelude.{IfSome, unwrap_or}
-use Rattle.std.proofs.Common.{◌≡◌, ◌<◌, ◌≤◌, ◌∙◌, List, Option, None, ap, sym, subst, refl, length, arith}
+use Rattle.std.proofs.Common.{◌≡◌, ◌<◌, ◌≤◌, ◌∙◌, None, ap, sym, subst, refl, length, arith}
 use Rattle.std.proofs.lemmas.List.{get_or_default}
 use Rattle.entity_index.specs.Changes.{emptied}
 use Rattle.entity_index.specs.Held.{parts_at}
 use Rattle.entity_index.specs.Lists.{no_lists}
-use Rattle.entity_index.specs.Rooms.{HeldRoom, in_room, room_of}
+use Rattle.entity_index.specs.Rooms.{HeldRoom, in_room}
 use Rattle.entity_index.proofs.Feeds.{none_past, placed_here, placed_other, placed_at}
 use Rattle.entity_index.proofs.index.take_in_room.Goals as goal
 

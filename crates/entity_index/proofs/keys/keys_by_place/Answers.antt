@@ -1,4 +1,4 @@
-use Rattle.std.proofs.Common.{◌≡◌, ◌+◌, ◌<◌, ◌++◌, ◌∷◌, ℕ, List, [], ap, ◌∙◌, sym, cond, bytes_eq, take, length, get_or, arith}
+use Rattle.std.proofs.Common.{◌+◌, ◌<◌, ◌++◌, ◌∷◌, [], ap, ◌∙◌, sym, cond, bytes_eq, take, length, get_or, arith}
 use Rattle.feed_values.specs.Snapshot.{entity_payloads}
 use Rattle.rule_table.specs.Counts.{count_in}
 use Rattle.rule_table.specs.declared.key.EntityKey.{EntityKey}

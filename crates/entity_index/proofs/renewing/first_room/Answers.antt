@@ -1,11 +1,10 @@
-use Rattle.std.proofs.Common.{◌≡◌, ◌∙◌, [], ap, refl, true, Some}
+use Rattle.std.proofs.Common.{◌∙◌, [], ap, refl, true, Some}
 use Rattle.feed_values.specs.Snapshot.{entity_payloads}
-use Rattle.rule_table.specs.declared.key.EntityKey.{EntityKey}
 use Rattle.entity_index.specs.Held.{HeldEntities, KeyedParts, at_key}
 use Rattle.entity_index.specs.Seats.{placed_after}
-use Rattle.entity_index.specs.Put.{put_all, seat_all}
+use Rattle.entity_index.specs.Put.{put_all}
 use Rattle.entity_index.proofs.Coming.{seat-same}
-use Rattle.entity_index.proofs.Taken.{AreTaken, first_in}
+use Rattle.entity_index.proofs.Taken.{first_in}
 use Rattle.entity_index.proofs.renewing.first_room.Goals as goal
 
 pub invariant_of-result : goal.invariant_of-result

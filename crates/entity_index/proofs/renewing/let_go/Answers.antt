@@ -1,4 +1,4 @@
-use Rattle.std.proofs.Common.{◌≡◌, ◌∙◌, List, ap, sym, rules}
+use Rattle.std.proofs.Common.{◌≡◌, ◌∙◌, ap, sym, rules}
 use Rattle.engine_laws.proofs.Sorted.{apart_rising}
 use Rattle.entity_index.specs.Held.{at_key}
 use Rattle.entity_index.proofs.Leaving.{out_all, out_one, out-same, out-others}

@@ -1,10 +1,10 @@
-use Rattle.std.proofs.Common.{◌≡◌, ◌∙◌, [], ap, sym, subst, not, Some}
+use Rattle.std.proofs.Common.{◌∙◌, [], ap, sym, subst, not, Some}
 use Rattle.feed_values.specs.Snapshot.{entity_payloads}
 use Rattle.entity_index.specs.Held.{HeldEntities, KeyedParts, at_key}
 use Rattle.entity_index.specs.Changes.{AreIncoming, replaced}
 use Rattle.entity_index.specs.Rooms.{HeldRoom, in_room}
 use Rattle.entity_index.specs.Seats.{placed_after}
-use Rattle.entity_index.specs.Put.{put_all, seat_all, staying}
+use Rattle.entity_index.specs.Put.{put_all, staying}
 use Rattle.entity_index.proofs.Coming.{seat-same}
 use Rattle.entity_index.proofs.Taken.{other_in, same_in, still_occur}
 use Rattle.entity_index.proofs.renewing.next_room.Goals as goal

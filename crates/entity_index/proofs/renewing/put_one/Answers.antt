@@ -1,4 +1,4 @@
-use Rattle.std.proofs.Common.{◌≡◌, ◌∙◌, ap, sym, subst, refl, Some, None, IsSome}
+use Rattle.std.proofs.Common.{◌∙◌, ap, sym, subst, refl, IsSome}
 use Rattle.feed_values.specs.Views.{entity_value}
 use Rattle.entity_index.specs.Put.{come, put_one}
 use Rattle.entity_index.specs.Held.{at_key}

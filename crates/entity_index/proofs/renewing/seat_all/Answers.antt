@@ -1,4 +1,4 @@
-use Rattle.std.proofs.Common.{◌≡◌, ◌<◌, ◌+◌, ◌∙◌, [], ℕ, ap, sym, refl, length, take, drop, get_or, arith}
+use Rattle.std.proofs.Common.{◌<◌, ◌+◌, ◌∙◌, [], ℕ, ap, sym, length, take, drop, get_or, arith}
 use Rattle.feed_values.specs.Snapshot.{entity_payloads}
 use Rattle.rule_table.specs.declared.key.EntityKey.{EntityKey}
 use Rattle.entity_index.specs.Held.{at_key}

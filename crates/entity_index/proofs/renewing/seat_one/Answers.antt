@@ -1,4 +1,4 @@
-use Rattle.std.proofs.Common.{ap, ◌∙◌, sym, subst, refl, IsSome}
+use Rattle.std.proofs.Common.{ap, sym, subst, refl, IsSome}
 use Rattle.entity_index.specs.Put.{seated}
 use Rattle.entity_index.proofs.Setting.{changed_at, none_changed}
 use Rattle.entity_index.proofs.renewing.seat_one.Goals as goal

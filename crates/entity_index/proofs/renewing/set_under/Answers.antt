@@ -1,6 +1,5 @@
-use Rattle.std.proofs.Common.{◌≡◌, ◌∙◌, ap, sym, subst, get_or, []}
+use Rattle.std.proofs.Common.{◌∙◌, ap, sym, subst, get_or, []}
 use Rattle.feed_values.specs.Snapshot.{entity_of}
-use Rattle.rule_table.specs.Groups.{Each}
 use Rattle.entity_index.specs.Lists.{with_list}
 use Rattle.entity_index.specs.Seats.{AreSeated, HeldSeat, IsSeat, parts_in, places_of}
 use Rattle.entity_index.proofs.AtKey.{each_at}

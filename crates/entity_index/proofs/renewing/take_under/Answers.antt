@@ -1,8 +1,6 @@
-use Rattle.std.proofs.Common.{◌≡◌, ◌∙◌, ap, sym, subst, get_or, []}
+use Rattle.std.proofs.Common.{◌∙◌, ap, sym, subst, get_or, []}
 use Rattle.std.specs.Prelude.{unwrap_or, option_map}
 use Rattle.feed_values.specs.Snapshot.{entity_of}
-use Rattle.rule_table.specs.Groups.{Each}
-use Rattle.entity_index.specs.Held.{at_key}
 use Rattle.entity_index.specs.Lists.{no_lists}
 use Rattle.entity_index.specs.Seats.{AreSeated, HeldSeat, IsSeat, parts_in, places_of}
 use Rattle.entity_index.proofs.AtKey.{each_at, at-mapped}

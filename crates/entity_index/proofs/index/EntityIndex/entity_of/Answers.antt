@@ -1,4 +1,4 @@
-use Rattle.std.proofs.Common.{◌≡◌, ◌∙◌, List, Option, Some, None, ap, sym, option_copied, option_map, subst}
+use Rattle.std.proofs.Common.{◌∙◌, Some, None, ap, option_copied, option_map, subst}
 use Rattle.feed_values.specs.Snapshot.{entity_payloads}
 use Rattle.feed_values.specs.Views.{entity_value}
 use Rattle.entity_index.specs.Held.{at_key}

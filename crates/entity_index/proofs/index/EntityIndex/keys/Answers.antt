@@ -1,4 +1,4 @@
-use Rattle.std.proofs.Common.{◌≡◌, ◌∙◌, List, Some, ap, sym, subst, map}
+use Rattle.std.proofs.Common.{◌∙◌, ap, subst, map}
 use Rattle.feed_values.specs.Snapshot.{entity_payloads}
 use Rattle.entity_index.specs.Rooms.{HeldRoom, room_of}
 use Rattle.entity_index.specs.Seats.{AreSeats}

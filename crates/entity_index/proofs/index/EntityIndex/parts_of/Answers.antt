@@ -1,4 +1,4 @@
-use Rattle.std.proofs.Common.{◌≡◌, ◌∙◌, List, Option, Some, None, ap, sym, option_copied}
+use Rattle.std.proofs.Common.{◌∙◌, Some, None, ap, option_copied}
 use Rattle.entity_index.specs.Held.{at_key}
 use Rattle.entity_index.specs.Rooms.{HeldRoom, room_of}
 use Rattle.entity_index.proofs.Feeds.{parts-under}
