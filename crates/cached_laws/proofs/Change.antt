@@ -13,8 +13,9 @@ use Rattle.rule_table.specs.Rises.{Rises, Rising}
 use Rattle.rule_history.specs.Changed.{count_of, is_paired}
 use Rattle.rule_history.specs.History.{Snapshot, IsTaken, entities_in, entities_of_snapshot, below, feed_limit, feed_limit-is}
 use Rattle.rule_history.specs.Standing.{Spot, Standing, opened, closed}
+use Rattle.history_rules.specs.HeldPeaks.{peak_of}
 use Rattle.pairing_rules.specs.ByKind.{AreAlike}
-use Rattle.engine_laws.specs.Delta.{Delta, IsChange, bounded_held, is_limited, is_new, paired_held}
+use Rattle.engine_laws.specs.Delta.{Delta, IsChange, bounded_held, is_limited, is_moved, is_new, paired_held, peaked_held}
 use Rattle.engine_laws.specs.HeldFeeds.{HeldFeed, closed_in, held_after, list_under, opened_in, rows_held}
 use Rattle.engine_laws.specs.Standings.{findings_of}
 use Rattle.engine_laws.proofs.Lists.{below-same}
@@ -35,7 +36,7 @@ use Rattle.cached_laws.specs.State.{HeldHeader, State, IsState, feed_of, header_
 use Rattle.cached_laws.specs.Cached.{AreCached}
 use Rattle.cached_laws.specs.Keys.{AreTouched, lasts_then}
 use Rattle.cached_laws.specs.Judged.{AreFirstTold, AreJudged, IsTakenIn, header_then}
-use Rattle.cached_laws.proofs.Counts.{bounded_size, paired_size, tested_size}
+use Rattle.cached_laws.proofs.Counts.{bounded_size, paired_size, peaked_size, tested_size}
 use Rattle.cached_laws.proofs.Entries.{each_under, keys_of_rising, rising_of}
 use Rattle.cached_laws.proofs.Next.{is_cached, is_next, is_state, map-map, next, rows_are, under_is}
 use Rattle.cached_laws.proofs.Parts.{closed_whole, opened_whole}
@@ -109,26 +110,26 @@ module _ {B : Type 0} (g : ℕ) (tolds : List FeedTold) (are : AreTolds tolds) (
           both p q = cc
 
 module _ (t : Option Tables) (n : ℕ) (state : State) (s : Snapshot) (is : IsState state) (taken : IsTaken s) (fits : s.feed < 16) (cached : AreCached t state.index (feed_of state))
-    (rows : List PairRow) (alike : AreAlike rows (rows_held (lasts_then s (feed_of state)))) (local paired bounded : List EntityKey) (touched : AreTouched state s local paired bounded)
-    (mid : State) (into : IsTakenIn n s state mid) (last : List HeldEntities) (before after : List FeedTold) (judged : AreJudged t n s rows local paired bounded mid.index last before after)
+    (rows : List PairRow) (alike : AreAlike rows (rows_held (lasts_then s (feed_of state)))) (local paired bounded peaked : List EntityKey) (touched : AreTouched state s local paired bounded peaked)
+    (mid : State) (into : IsTakenIn n s state mid) (last : List HeldEntities) (before after : List FeedTold) (judged : AreJudged t n s rows (peak_of mid.peaks) local paired bounded peaked mid.index last before after)
     (told : AreFirstTold n s state before) (ordered : Each (λ x. Rises key_cmp (map (λ e. e.0) x.entities)) after) where
   abbrev feeds : ℕ → HeldFeed
   feeds = feed_of state
 
   abbrev next_state : State
-  next_state = next t n state s is taken fits cached rows alike local paired bounded touched mid into last before after judged
+  next_state = next t n state s is taken fits cached rows alike local paired bounded peaked touched mid into last before after judged
 
   abbrev next_feeds : ℕ → HeldFeed
   next_feeds = feed_of next_state
 
   state_next : IsState next_state
-  state_next = is_state t n state s is taken fits cached rows alike local paired bounded touched mid into last before after judged
+  state_next = is_state t n state s is taken fits cached rows alike local paired bounded peaked touched mid into last before after judged
 
   cached_next : AreCached t last next_feeds
-  cached_next = is_cached t n state s is taken fits cached rows alike local paired bounded touched mid into last before after judged
+  cached_next = is_cached t n state s is taken fits cached rows alike local paired bounded peaked touched mid into last before after judged
 
   tolds_are : AreTolds after
-  tolds_are = judged.bounded_is.tolds_are (judged.paired_is.tolds_are (judged.local_is.tolds_are told.tolds_are))
+  tolds_are = judged.peaked_is.tolds_are (judged.bounded_is.tolds_are (judged.paired_is.tolds_are (judged.local_is.tolds_are told.tolds_are)))
 
   few : length after ≤ feed_limit
   few = subst (λ m. length after ≤ m) (sym feed_limit-is) tolds_are.few
@@ -137,11 +138,11 @@ module _ (t : Option Tables) (n : ℕ) (state : State) (s : Snapshot) (is : IsSt
   rises_at g = each_get (λ (x : FeedTold). Rises key_cmp (map (λ e. e.0) x.entities)) after nothing_told g ordered tt
 
   told_then : (k : EntityKey) → told_at after k ≡ told_parts (lists_under state.index k) (lists_under last k)
-  told_then k = told_is t n state s is taken fits cached rows alike local paired bounded touched mid.index last into.entities_are before after judged told k
+  told_then k = told_is t n state s is taken fits cached rows alike (peak_of mid.peaks) into.peaks_are local paired bounded peaked touched mid.index last into.entities_are before after judged told k
 
   -- ---- on headers
   header_after : (g : ℕ) → header_told after g ≡ (if s.feed == g then plus no_told (told_between (header_at state.headers s.feed).list (header_then n s state)) else no_told)
-  header_after g = judged.bounded_is.headers_are g ∙ judged.paired_is.headers_are g ∙ judged.local_is.headers_are g ∙ told.headers_are g
+  header_after g = judged.peaked_is.headers_are g ∙ judged.bounded_is.headers_are g ∙ judged.paired_is.headers_are g ∙ judged.local_is.headers_are g ∙ told.headers_are g
 
   told_header : (g : ℕ) → header_told after g ≡ told_between (feeds g).header (next_feeds g).header
   told_header g = header_after g ∙ elim (s.feed == g) as (λ b. (s.feed == g) ≡ b → (if b then plus no_told (told_between (header_at state.headers s.feed).list (header_then n s state)) else no_told) ≡ told_between (feeds g).header (next_feeds g).header) [
@@ -200,10 +201,10 @@ module _ (t : Option Tables) (n : ℕ) (state : State) (s : Snapshot) (is : IsSt
 
   -- ---- the counts
   owed : (f : ℕ) → next_feeds f ≡ held_after t n s feeds f
-  owed = next_is_computed.is_only t n s feeds next_feeds (is_next t n state s is taken fits cached rows alike local paired bounded touched mid into last before after judged)
+  owed = next_is_computed.is_only t n s feeds next_feeds (is_next t n state s is taken fits cached rows alike local paired bounded peaked touched mid into last before after judged)
 
   rows_owed : rows_held next_feeds ≡ rows_held (held_after t n s feeds)
-  rows_owed = rows_are t n state s is taken fits cached rows alike local paired bounded touched mid into last before after judged
+  rows_owed = rows_are t n state s is taken fits cached rows alike local paired bounded peaked touched mid into last before after judged
 
   paired_then : paired_held s feeds (held_after t n s feeds) ≡ paired_held s feeds next_feeds
   paired_then =
@@ -214,9 +215,12 @@ module _ (t : Option Tables) (n : ℕ) (state : State) (s : Snapshot) (is : IsSt
   bounded_then : bounded_held s feeds (held_after t n s feeds) ≡ bounded_held s feeds next_feeds
   bounded_then = ap (λ (x : HeldFeed). count_of (λ e. is_new (feeds s.feed) e || is_limited s (feeds s.feed) x e) (entities_in s.feed s.bytes)) (sym (owed s.feed))
 
+  peaked_then : peaked_held s feeds (held_after t n s feeds) ≡ peaked_held s feeds next_feeds
+  peaked_then = ap (λ (x : HeldFeed). count_of (λ e. is_new (feeds s.feed) e || is_moved (feeds s.feed) x e) (entities_in s.feed s.bytes)) (sym (owed s.feed))
+
   pub is_change : (d : Delta) → d.snapshot ≡ n → d.entities ≡ length (entity_payloads s.bytes) → d.opened ≡ flat_map feed_opened after → d.closed ≡ flat_map feed_closed after →
-      d.tested ≡ length local → d.paired ≡ length paired → d.bounded ≡ length bounded → IsChange n s feeds next_feeds d
-  is_change d a b c e x y z = record {
+      d.tested ≡ length local → d.paired ≡ length paired → d.bounded ≡ length bounded → d.peaked ≡ length peaked → IsChange n s feeds next_feeds d
+  is_change d a b c e x y z w = record {
     snapshot_is = a;
     entities_is = b;
     opened_is = c ∙ opened_all;
@@ -224,4 +228,5 @@ module _ (t : Option Tables) (n : ℕ) (state : State) (s : Snapshot) (is : IsSt
     tested_is = x ∙ tested_size state s is fits local touched.local_are;
     paired_is = y ∙ paired_size state s is fits paired touched.paired_are t n ∙ paired_then;
     bounded_is = z ∙ bounded_size state s is fits taken t n cached bounded touched.bounded_are ∙ bounded_then;
+    peaked_is = w ∙ peaked_size state s is fits taken peaked touched.peaked_are t n ∙ peaked_then;
   }

@@ -17,15 +17,17 @@ use Rattle.rule_table.specs.Found.{Found}
 use Rattle.rule_table.specs.Groups.{Each, NoneInBoth, has_rule}
 use Rattle.rule_table.specs.GroupLaws.{any_both, each_weaken}
 use Rattle.rule_table.specs.Order.{key_cmp, same_key}
-use Rattle.rule_table.specs.Pairs.{PairRow, rows_of}
+use Rattle.rule_table.specs.Answers.{Gathered}
+use Rattle.rule_table.specs.Pairs.{rows_of}
+use Rattle.rule_table.specs.Peaks.{vehicle_id_of}
 use Rattle.rule_table.specs.Rises.{Rising}
 use Rattle.rule_table.specs.Rules.{rule_number, same_rule}
 use Rattle.rule_history.specs.History.{Snapshot, IsTaken, Keyed, entities_in, entities_of_snapshot, below, feed_limit, feed_limit-is}
 use Rattle.rule_history.specs.Answered.{payload_under}
-use Rattle.rule_history.specs.Changed.{count_of, is_paired, is_payload, keeps_bounds}
+use Rattle.rule_history.specs.Changed.{count_of, has_moved, is_paired, is_payload, keeps_bounds}
 use Rattle.rule_history.specs.Standing.{Standing}
-use Rattle.engine_laws.specs.Delta.{has_limit, is_limited, is_new, is_other, bounded_held, paired_held, tested_held}
-use Rattle.engine_laws.specs.HeldFeeds.{HeldFeed, IsLastOf, KeyedLists, entities_found, entity_found, held_after, last_after, list_under, renewed_lists, rows_after, rows_held}
+use Rattle.engine_laws.specs.Delta.{has_limit, is_limited, is_new, is_other, bounded_held, paired_held, peaked_held, tested_held}
+use Rattle.engine_laws.specs.HeldFeeds.{HeldFeed, IsLastOf, KeyedLists, entities_found, entity_found, gathered_after, held_after, last_after, list_under, peaks_after, renewed_lists, rows_held}
 use Rattle.engine_laws.specs.Standings.{findings_of, renewed}
 use Rattle.engine_laws.proofs.Ascending.{nat_less}
 use Rattle.engine_laws.proofs.Lists.{each_of_map, filter-none, rises_below}
@@ -33,7 +35,7 @@ use Rattle.engine_laws.proofs.Since.{findings-renewed}
 use Rattle.engine_laws.proofs.Sorted.{entities_feed, entities_rise}
 use Rattle.engine_laws.proofs.Spots.{any-having, having, is_false, is_some_one, or_false}
 use Rattle.standing_walks.specs.Merged.{merged, merged_four}
-use Rattle.history_rules.specs.Rules.{bound_rules}
+use Rattle.history_rules.specs.Rules.{bound_rules, peak_rules}
 use Rattle.pairing_rules.specs.Pairing.{pairing_rules}
 use Rattle.part_laws.specs.FourParts.{AreFoundOf, StandOf}
 use Rattle.part_laws.proofs.AtSpot.{left_alone, neither, right_alone}
@@ -49,12 +51,12 @@ use Rattle.row_changes.specs.Given.{rows_under}
 use Rattle.row_changes.specs.Held.{entity_at}
 use Rattle.row_changes.specs.Touched.{gives_later}
 use Rattle.row_changes.proofs.Lists.{and-none, or-none}
-use Rattle.entity_parts.specs.Found.{bounded_found, local_found, local_rules, paired_found}
-use Rattle.entity_parts.proofs.Whole.{bounded_of, four_groups, local_of, paired_of, parts_are_the_whole}
+use Rattle.entity_parts.specs.Found.{bounded_found, local_found, local_rules, paired_found, peaked_found}
+use Rattle.entity_parts.proofs.Whole.{bounded_of, four_groups, local_of, paired_of, peaked_of, parts_are_the_whole}
 use Rattle.touched_entities.specs.Again.{found_in, found_under, lists_at, lists_under, payload_at}
 use Rattle.touched_entities.proofs.Fresh.{fresh_far, fresh_is, fresh_none, none_far}
-use Rattle.cached_laws.specs.Cached.{AreCached, bounded_by, bounded_in}
-use Rattle.cached_laws.specs.Keys.{AreBoundedKeys, AreKeys, IsBoundOf, bytes_before, is_fresh_key, is_over_then, is_paired_then, lasts_then}
+use Rattle.cached_laws.specs.Cached.{AreCached, bounded_by, bounded_in, peaked_in}
+use Rattle.cached_laws.specs.Keys.{AreBoundedKeys, AreKeys, IsBoundOf, bytes_before, is_fresh_key, is_over_then, is_paired_then, is_peaked_then, gives_moved, lasts_then}
 use Rattle.cached_laws.specs.State.{IsState, State, feed_of, whole_of}
 use Rattle.cached_laws.proofs.Bounds.{entities_are, entity_then, found_later, later_found}
 use Rattle.cached_laws.proofs.Counted.{below_at, counted, passes}
@@ -96,25 +98,29 @@ renewed-limit : (xs : List Standing) (n : ℕ) (fs : List Found) → has_limit (
 renewed-limit xs n fs = has-limit (renewed xs n fs) ∙ ap (list_any limits) (findings-renewed xs n fs)
 
 -- of the four parts of an entity the third alone has one
-third-limit : (a b c : List Standing) → StandOf local_rules a → StandOf pairing_rules b → has_limit (merged_four a b c []) ≡ list_any limits (findings_of c)
-third-limit a b c ha hb =
-    has-limit (merged_four a b c []) ∙ any-having limits (merged_four a b c [])
+third-limit : (a b c d : List Standing) → StandOf local_rules a → StandOf pairing_rules b → StandOf peak_rules d → has_limit (merged_four a b c d) ≡ list_any limits (findings_of c)
+third-limit a b c d ha hb hd =
+    has-limit (merged_four a b c d) ∙ any-having limits (merged_four a b c d)
     ∙ ap is_some_one
-    (right_alone limit (merged a b) (merged c []) (neither limit a b (no_limits local_rules four_groups.first_third a ha) (no_limits pairing_rules four_groups.second_third b hb))
-    ∙ left_alone limit c [] refl)
+    (right_alone limit (merged a b) (merged c d) (neither limit a b (no_limits local_rules four_groups.first_third a ha) (no_limits pairing_rules four_groups.second_third b hb))
+    ∙ left_alone limit c d (no_limits peak_rules refl d hd))
     ∙ sym (any-having limits c)
 
-found-limit : (t : Option Tables) (u : List PairRow) (s : Snapshot) (key : EntityKey) (p : List ℕ) → list_any limits (entity_found t u s (key, p)) ≡ list_any limits (bounded_found (timestamp_of (header_of s.bytes)) s.moment key (entity_of p))
+found-limit : (t : Option Tables) (u : Gathered) (s : Snapshot) (key : EntityKey) (p : List ℕ) → list_any limits (entity_found t u s (key, p)) ≡ list_any limits (bounded_found (timestamp_of (header_of s.bytes)) s.moment key (entity_of p))
 found-limit t u s key p =
-    sym (renewed-limit [] 0 (entity_found t u s (key, p))) ∙ ap has_limit (sym (parts_are_the_whole t u s key p 0 [] [] [] tt tt tt))
-    ∙ third-limit (renewed [] 0 local) (renewed [] 0 paired) (renewed [] 0 bounds) (renewed_of local_rules [] 0 local (local_of t key (entity_of p))) (renewed_of pairing_rules [] 0 paired (paired_of u key (entity_of p)))
+    sym (renewed-limit [] 0 (entity_found t u s (key, p))) ∙ ap has_limit (sym (parts_are_the_whole t u s key p 0 [] [] [] [] tt tt tt tt))
+    ∙ third-limit (renewed [] 0 local) (renewed [] 0 paired) (renewed [] 0 bounds) (renewed [] 0 peaks)
+    (renewed_of local_rules [] 0 local (local_of t key (entity_of p))) (renewed_of pairing_rules [] 0 paired (paired_of u.rows key (entity_of p))) (renewed_of peak_rules [] 0 peaks (peaked_of u.peaks key (entity_of p)))
     ∙ ap (list_any limits) (findings-renewed [] 0 bounds)
   where
     local : List Found
     local = local_found t key (entity_of p)
 
     paired : List Found
-    paired = paired_found u key (entity_of p)
+    paired = paired_found u.rows key (entity_of p)
+
+    peaks : List Found
+    peaks = peaked_found u.peaks key (entity_of p)
 
     bounds : List Found
     bounds = bounded_found (timestamp_of (header_of s.bytes)) s.moment key (entity_of p)
@@ -161,18 +167,26 @@ module _ (state : State) (t : Option Tables) (are : AreCached t state.index (fee
       go None = tt
       go (Some p) = paired_of (rows_held (feed_of state)) key (entity_of p)
 
+  are_peaked : AreFoundOf peak_rules (found_under (peaked_in (feed_of state)) state.index key)
+  are_peaked = go (payload_at state.index key)
+    where
+      go : (o : Option (List ℕ)) → AreFoundOf peak_rules (found_in (peaked_in (feed_of state)) key o)
+      go None = tt
+      go (Some p) = peaked_of (λ f. (feed_of state f).peaks) key (entity_of p)
+
   limit-was : (p : List ℕ) → payload_at state.index key ≡ Some p → has_limit (list_under key (feed_of state key.feed).entities) ≡ list_any limits (bounded_in (feed_of state) key (entity_of p))
   limit-was p h =
-      ap has_limit (whole-at state key) ∙ ap (λ d. has_limit (merged_four lists.local lists.paired lists.bounded d)) (are.further_are key)
-      ∙ third-limit lists.local lists.paired lists.bounded
+      ap has_limit (whole-at state key)
+      ∙ third-limit lists.local lists.paired lists.bounded lists.peaked
       (stand_of local_rules lists.local (found_under (local_found t) state.index key) (are.local_are key) are_local)
       (stand_of pairing_rules lists.paired (found_under (paired_found (rows_held (feed_of state))) state.index key) (are.paired_are key) are_paired)
+      (stand_of peak_rules lists.peaked (found_under (peaked_in (feed_of state)) state.index key) (are.peaked_are key) are_peaked)
       ∙ ap (list_any limits) (are.bounded_are key ∙ ap (found_in (bounded_in (feed_of state)) key) h)
 
 -- ---- and once a snapshot of its feed came
 module _ (t : Option Tables) (n : ℕ) (s : Snapshot) (old : ℕ → HeldFeed) (key : EntityKey) (p : List ℕ) (there : payload_under key (entities_in s.feed s.bytes) ≡ Some p) where
-  abbrev u : List PairRow
-  u = rows_after s old
+  abbrev u : Gathered
+  u = gathered_after s old
 
   abbrev had : KeyedLists
   had = (old s.feed).entities
@@ -387,3 +401,39 @@ module _ (state : State) (s : Snapshot) (is : IsState state) (fits : s.feed < 16
 
     pub bounded_size : (ks : List EntityKey) → AreBoundedKeys state s ks → length ks ≡ bounded_held s (feed_of state) (held_after t n s (feed_of state))
     bounded_size ks are = counted is_bounded_here here ks (entities_rise s.feed s.bytes) are.keys_are.rise (λ key. are.keys_are.among key ∙ bounded_passes ks are key (payload_under key here) refl)
+
+  -- ---- those of the snapshot whose vehicle has another peak
+  module _ (taken : IsTaken s) where
+    abbrev moved : Option (List ℕ) → Bool
+    moved given = has_moved (old s.feed).peaks (peaks_after s old s.feed) given
+
+    then-here : (key : EntityKey) → (s.feed == key.feed) ≡ true → entity_at (lasts_then s old) key ≡ option_map entity_of (payload_under key here)
+    then-here key e = entity_then state s is taken fits key ∙ ap (λ b. option_map entity_of (payload_under key (entities_of_snapshot (cond b (Some s) (old key.feed).last)))) e
+
+    moved_there : (key : EntityKey) (b : Bool) → (s.feed == key.feed) ≡ b → is_peaked_then state s key ≡ passes (λ e. moved (vehicle_id_of (entity_of e.1))) key (payload_under key here)
+    moved_there key true e =
+        ap (λ b. b && gives_moved (old s.feed).peaks (peaks_after s old s.feed) (entity_at (lasts_then s old) key)) (eq-eqb key.feed s.feed (sym (eqb-true s.feed key.feed e)))
+        ∙ ap (gives_moved (old s.feed).peaks (peaks_after s old s.feed)) (then-here key e) ∙ go (payload_under key here)
+      where
+        go : (o : Option (List ℕ)) → gives_moved (old s.feed).peaks (peaks_after s old s.feed) (option_map entity_of o) ≡ passes (λ e. moved (vehicle_id_of (entity_of e.1))) key o
+        go None = refl
+        go (Some p) = refl
+    moved_there key false e =
+        ap (λ b. b && gives_moved (old s.feed).peaks (peaks_after s old s.feed) (entity_at (lasts_then s old) key)) (other_way s.feed key.feed e)
+        ∙ sym (ap (passes (λ e. moved (vehicle_id_of (entity_of e.1))) key) (none_far s.feed key here (entities_feed s.feed s.bytes) e))
+
+    abbrev is_peaked_here : Keyed → Bool
+    is_peaked_here e = is_new (old s.feed) e || moved (vehicle_id_of (entity_of e.1))
+
+    peaked_passes : (key : EntityKey) → (is_fresh_key state s key || is_peaked_then state s key) ≡ passes is_peaked_here key (payload_under key here)
+    peaked_passes key =
+        ap (λ b. b || is_peaked_then state s key) (fresh_passes key)
+        ∙ ap (λ b. passes (is_new (old s.feed)) key (payload_under key here) || b) (moved_there key (s.feed == key.feed) refl)
+        ∙ either (payload_under key here)
+      where
+        either : (o : Option (List ℕ)) → (passes (is_new (old s.feed)) key o || passes (λ e. moved (vehicle_id_of (entity_of e.1))) key o) ≡ passes is_peaked_here key o
+        either None = refl
+        either (Some p) = refl
+
+    pub peaked_size : (ks : List EntityKey) → AreKeys (λ key. is_fresh_key state s key || is_peaked_then state s key) ks → (t : Option Tables) (n : ℕ) → length ks ≡ peaked_held s (feed_of state) (held_after t n s (feed_of state))
+    peaked_size ks are t n = counted is_peaked_here here ks (entities_rise s.feed s.bytes) are.rise (λ key. are.among key ∙ peaked_passes key)

@@ -1,6 +1,7 @@
 -- What is held once a snapshot was judged is what is owed for it.
 use Rattle.std.specs.Prelude.{◌≡◌, ℕ, ◌<◌, ◌≤◌, ◌==◌, true, false, List, [], ◌∷◌, map, Option, Some, None, option_map, unwrap_or, IfSome, refl}
 use Rattle.std.proofs.Common.{sym, ap, ◌∙◌, subst, arith}
+use Rattle.std.proofs.Math.Path.{fun_ext}
 use borrow.Author.Tests.{eqb-true}
 use Rattle.feed_values.specs.Snapshot.{entity_of}
 use Rattle.timetable.specs.Timetables.{Tables}
@@ -9,14 +10,17 @@ use Rattle.rule_table.specs.Found.{Found}
 use Rattle.rule_table.specs.Groups.{Each}
 use Rattle.rule_table.specs.GroupLaws.{each_weaken}
 use Rattle.rule_table.specs.Pairs.{PairRow}
+use Rattle.rule_table.specs.Peaks.{PeakMap}
 use Rattle.rule_history.specs.History.{Keyed, Snapshot, IsTaken, entities_in, entities_of_snapshot, feed_limit, feed_limit-is}
 use Rattle.rule_history.specs.Answered.{payload_under, rows_in}
 use Rattle.rule_history.specs.Standing.{Standing}
+use Rattle.history_rules.specs.HeldPeaks.{peak_of}
 use Rattle.pairing_rules.specs.ByKind.{AreAlike}
-use Rattle.engine_laws.specs.HeldFeeds.{AreApart, HeldFeed, IsLastOf, IsNext, KeyedLists, entities_found, entity_found, head_found, list_under, renewed_lists, rows_held}
+use Rattle.engine_laws.specs.HeldFeeds.{AreApart, HeldFeed, IsLastOf, IsNext, KeyedLists, entities_found, entity_found, head_found, gathered_held, list_under, renewed_lists, rows_held}
 use Rattle.engine_laws.specs.Standings.{renewed}
 use Rattle.engine_laws.proofs.Ascending.{head_ascends}
 use Rattle.engine_laws.proofs.Lists.{below-same, map-same}
+use Rattle.engine_laws.proofs.Next.{gathered_same}
 use Rattle.engine_laws.proofs.Proved.{next_is_own}
 use Rattle.engine_laws.proofs.Sorted.{apart_rising, entities_feed, entities_rise}
 use Rattle.standing_walks.specs.Merged.{merged_four}
@@ -25,18 +29,18 @@ use Rattle.standing_walks.proofs.Walked.{renewed_rises}
 use Rattle.entity_index.specs.Held.{HeldEntities, at_key, entities_before, held_at, parts_at}
 use Rattle.entity_index.specs.Lists.{Lists, no_lists}
 use Rattle.entity_index.proofs.AtKey.{at-mapped, keys-apart}
-use Rattle.entity_parts.specs.Found.{local_found, paired_found}
+use Rattle.entity_parts.specs.Found.{local_found, paired_found, peaked_found}
 use Rattle.entity_parts.proofs.Whole.{parts_are_the_whole}
 use Rattle.touched_entities.specs.Again as again
 use Rattle.touched_entities.specs.Again.{FindPart, found_in, found_under, lists_at, lists_under, payload_at}
 use Rattle.touched_entities.specs.Exchanged.{IsExchanged}
 use Rattle.touched_entities.specs.Told.{FeedTold}
 use Rattle.cached_laws.specs.State.{HeldHeader, State, IsState, feed_of, header_at, snapshot_with, whole_of}
-use Rattle.cached_laws.specs.Cached.{AreCached, bounded_by, bounded_in}
+use Rattle.cached_laws.specs.Cached.{AreCached, bounded_by, bounded_in, peaked_in}
 use Rattle.cached_laws.specs.Keys.{AreTouched, lasts_then}
 use Rattle.cached_laws.specs.Judged.{AreJudged, IsTakenIn}
 use Rattle.cached_laws.proofs.Entries.{same_entries}
-use Rattle.cached_laws.proofs.Parts.{bounded_is, local_is, paired_is}
+use Rattle.cached_laws.proofs.Parts.{bounded_is, local_is, paired_is, peaked_is}
 use Rattle.cached_laws.proofs.Placed.{last_far, last_here}
 use Rattle.cached_laws.proofs.Step.{cached_then, lists_last, lists_now, payload_last}
 
@@ -75,8 +79,8 @@ each_key P (x ∷ xs) (y ∷ ys) h all = (subst P (sym (first x.0 y.0 (map (λ e
     rest k l ks ls e = cc
 
 module _ (t : Option Tables) (n : ℕ) (state : State) (s : Snapshot) (is : IsState state) (taken : IsTaken s) (fits : s.feed < 16) (cached : AreCached t state.index (feed_of state))
-    (rows : List PairRow) (alike : AreAlike rows (rows_held (lasts_then s (feed_of state)))) (local paired bounded : List EntityKey) (touched : AreTouched state s local paired bounded)
-    (mid : State) (into : IsTakenIn n s state mid) (last : List HeldEntities) (before after : List FeedTold) (judged : AreJudged t n s rows local paired bounded mid.index last before after) where
+    (rows : List PairRow) (alike : AreAlike rows (rows_held (lasts_then s (feed_of state)))) (local paired bounded peaked : List EntityKey) (touched : AreTouched state s local paired bounded peaked)
+    (mid : State) (into : IsTakenIn n s state mid) (last : List HeldEntities) (before after : List FeedTold) (judged : AreJudged t n s rows (peak_of mid.peaks) local paired bounded peaked mid.index last before after) where
   abbrev old : List HeldEntities
   old = state.index
 
@@ -88,20 +92,20 @@ module _ (t : Option Tables) (n : ℕ) (state : State) (s : Snapshot) (is : IsSt
 
   -- what is held then
   abbrev pub next : State
-  next = record { index = last; headers = mid.headers }
+  next = record { index = last; headers = mid.headers; peaks = mid.peaks }
 
   abbrev placed : IsExchanged s.feed s.bytes state.index mid.index
   placed = into.entities_are
 
   abbrev now_lists : EntityKey → List ℕ → Lists
-  now_lists = lists_now t n state s is taken fits cached rows alike local paired bounded touched mid.index last placed before after judged
+  now_lists = lists_now t n state s is taken fits cached rows alike (peak_of mid.peaks) into.peaks_are local paired bounded peaked touched mid.index last placed before after judged
 
   -- ---- the last snapshots
   bytes_last : (f : ℕ) → (held_at last f).bytes ≡ (held_at mid.index f).bytes
-  bytes_last f = judged.bounded_is.feeds_are.bytes_are f ∙ judged.paired_is.feeds_are.bytes_are f ∙ judged.local_is.feeds_are.bytes_are f
+  bytes_last f = judged.peaked_is.feeds_are.bytes_are f ∙ judged.bounded_is.feeds_are.bytes_are f ∙ judged.paired_is.feeds_are.bytes_are f ∙ judged.local_is.feeds_are.bytes_are f
 
   keys_last : (f : ℕ) → map (λ c. c.0) (held_at last f).parts ≡ map (λ c. c.0) (held_at mid.index f).parts
-  keys_last f = judged.bounded_is.feeds_are.keys_are f ∙ judged.paired_is.feeds_are.keys_are f ∙ judged.local_is.feeds_are.keys_are f
+  keys_last f = judged.peaked_is.feeds_are.keys_are f ∙ judged.bounded_is.feeds_are.keys_are f ∙ judged.paired_is.feeds_are.keys_are f ∙ judged.local_is.feeds_are.keys_are f
 
   abbrev here_at : ℕ → Type 0 → Type 0
   here_at f P = (s.feed ≡ f → P) → ((s.feed == f) ≡ false → P) → P
@@ -122,6 +126,12 @@ module _ (t : Option Tables) (n : ℕ) (state : State) (s : Snapshot) (is : IsSt
 
   pub rows_are : rows_held (feed_of next) ≡ rows_held later
   rows_are = below-same (λ f. rows_in (entities_of_snapshot (feed_of next f).last)) (λ f. rows_in (entities_of_snapshot (later f).last)) feed_limit (λ f l. ap (λ o. rows_in (entities_of_snapshot o)) (last_is f))
+
+  peaks_are : (f : ℕ) → (feed_of next f).peaks ≡ (later f).peaks
+  peaks_are f = fun_ext (λ vehicle. into.peaks_are f vehicle)
+
+  gathered_are : gathered_held (feed_of next) ≡ gathered_held later
+  gathered_are = gathered_same rows_are (fun_ext peaks_are)
 
   -- ---- the entities
   snapshot_entities : (f m : ℕ) (o : Option (List ℕ)) → entities_of_snapshot (snapshot_with f m o) ≡ entities_before f o
@@ -166,19 +176,18 @@ module _ (t : Option Tables) (n : ℕ) (state : State) (s : Snapshot) (is : IsSt
       one : (k : EntityKey) → k.feed ≡ f → at_key k (held_at last f).parts ≡ at_key k (map {B = EntityKey × Lists} (λ e. (e.0, now_lists e.0 e.1)) (there f))
       one k h =
           ap (λ g. at_key k (held_at last g).parts) (sym h)
-          ∙ lists_last t n state s is taken fits cached rows alike local paired bounded touched mid.index last placed before after judged k
-          ∙ ap (option_map (now_lists k)) (sym (payload_last t n state s is taken fits cached rows alike local paired bounded touched mid.index last placed before after judged k))
+          ∙ lists_last t n state s is taken fits cached rows alike (peak_of mid.peaks) into.peaks_are local paired bounded peaked touched mid.index last placed before after judged k
+          ∙ ap (option_map (now_lists k)) (sym (payload_last t n state s is taken fits cached rows alike (peak_of mid.peaks) into.peaks_are local paired bounded peaked touched mid.index last placed before after judged k))
           ∙ ap (λ g. option_map (now_lists k) (payload_under k (entities_before g (held_at last g).bytes))) h
           ∙ sym (at-mapped now_lists (there f) k)
 
   -- the whole of them is the whole renewed
-  whole_now : (f : ℕ) (x : Snapshot) → (later f).last ≡ Some x → (e : Keyed) → e.0.feed ≡ f → whole_of (now_lists e.0 e.1) ≡ renewed (list_under e.0 (feeds f).entities) n (entity_found t (rows_held later) x e)
+  whole_now : (f : ℕ) (x : Snapshot) → (later f).last ≡ Some x → (e : Keyed) → e.0.feed ≡ f → whole_of (now_lists e.0 e.1) ≡ renewed (list_under e.0 (feeds f).entities) n (entity_found t (gathered_held later) x e)
   whole_now f x h e q =
-      ap (λ (o : Option Snapshot). merged_four l0 l1 (renewed (old_list 2) n (bounded_by o e.0 (entity_of e.1))) (old_list 3)) (ap (λ g. (later g).last) q ∙ h)
-      ∙ ap (merged_four l0 l1 (renewed (old_list 2) n (bounded_by (Some x) e.0 (entity_of e.1)))) (cached.further_are e.0)
-      ∙ parts_are_the_whole t (rows_held later) x e.0 e.1 n (old_list 0) (old_list 1) (old_list 2) (local_is t old feeds cached e.0).stand (paired_is t old feeds cached e.0).stand (bounded_is t old feeds cached e.0).stand
-      ∙ ap (λ ys. renewed (merged_four (old_list 0) (old_list 1) (old_list 2) ys) n (entity_found t (rows_held later) x e)) (sym (cached.further_are e.0))
-      ∙ ap (λ ys. renewed ys n (entity_found t (rows_held later) x e)) (sym (under_is state e.0 f q))
+      ap (λ (o : Option Snapshot). merged_four l0 l1 (renewed (old_list 2) n (bounded_by o e.0 (entity_of e.1))) l3) (ap (λ g. (later g).last) q ∙ h)
+      ∙ parts_are_the_whole t (gathered_held later) x e.0 e.1 n (old_list 0) (old_list 1) (old_list 2) (old_list 3)
+      (local_is t old feeds cached e.0).stand (paired_is t old feeds cached e.0).stand (bounded_is t old feeds cached e.0).stand (peaked_is t old feeds cached e.0).stand
+      ∙ ap (λ ys. renewed ys n (entity_found t (gathered_held later) x e)) (sym (under_is state e.0 f q))
     where
       old_list : ℕ → List Standing
       old_list part = again.list_under old e.0 part
@@ -189,7 +198,10 @@ module _ (t : Option Tables) (n : ℕ) (state : State) (s : Snapshot) (is : IsSt
       l1 : List Standing
       l1 = renewed (old_list 1) n (paired_found (rows_held later) e.0 (entity_of e.1))
 
-  entities_then : (f : ℕ) → (feed_of next f).entities ≡ renewed_lists (feeds f).entities n (entities_found t (rows_held later) (later f).last)
+      l3 : List Standing
+      l3 = renewed (old_list 3) n (peaked_in later e.0 (entity_of e.1))
+
+  entities_then : (f : ℕ) → (feed_of next f).entities ≡ renewed_lists (feeds f).entities n (entities_found t (gathered_held later) (later f).last)
   entities_then f =
       ap (map {B = EntityKey × List Standing} (λ c. (c.0, whole_of c.1))) (parts_then f)
       ∙ map-map (λ (e : Keyed). let d : EntityKey × Lists = (e.0, now_lists e.0 e.1) in d) (λ (c : EntityKey × Lists). let d : EntityKey × List Standing = (c.0, whole_of c.1) in d) (there f)
@@ -198,13 +210,13 @@ module _ (t : Option Tables) (n : ℕ) (state : State) (s : Snapshot) (is : IsSt
       mapped : List Keyed → KeyedLists
       mapped es = map {B = EntityKey × List Standing} (λ e. (e.0, whole_of (now_lists e.0 e.1))) es
 
-      go : (o : Option Snapshot) → (later f).last ≡ o → (es : List Keyed) → es ≡ entities_of_snapshot o → mapped es ≡ renewed_lists (feeds f).entities n (entities_found t (rows_held later) o)
+      go : (o : Option Snapshot) → (later f).last ≡ o → (es : List Keyed) → es ≡ entities_of_snapshot o → mapped es ≡ renewed_lists (feeds f).entities n (entities_found t (gathered_held later) o)
       go None h es q = ap mapped q
       go (Some x) h es q =
           ap mapped q
-          ∙ map-same (λ (e : Keyed). let d : EntityKey × List Standing = (e.0, whole_of (now_lists e.0 e.1)) in d) (λ (e : Keyed). let d : EntityKey × List Standing = (e.0, renewed (list_under e.0 (feeds f).entities) n (entity_found t (rows_held later) x e)) in d) (entities_in x.feed x.bytes)
+          ∙ map-same (λ (e : Keyed). let d : EntityKey × List Standing = (e.0, whole_of (now_lists e.0 e.1)) in d) (λ (e : Keyed). let d : EntityKey × List Standing = (e.0, renewed (list_under e.0 (feeds f).entities) n (entity_found t (gathered_held later) x e)) in d) (entities_in x.feed x.bytes)
           (each_weaken (λ (e : Keyed). e.0.feed ≡ f) _ (λ e m. ap (λ (xs : List Standing). let d : EntityKey × List Standing = (e.0, xs) in d) (whole_now f x h e m)) (entities_in x.feed x.bytes) (subst (λ (ds : List Keyed). Each (λ e. e.0.feed ≡ f) ds) (there_is f ∙ ap entities_of_snapshot h) (there_feed f)))
-          ∙ sym (map-map (λ (e : Keyed). let d : EntityKey × List Found = (e.0, entity_found t (rows_held later) x e) in d) (λ (c : EntityKey × List Found). let d : EntityKey × List Standing = (c.0, renewed (list_under c.0 (feeds f).entities) n c.1) in d) (entities_in x.feed x.bytes))
+          ∙ sym (map-map (λ (e : Keyed). let d : EntityKey × List Found = (e.0, entity_found t (gathered_held later) x e) in d) (λ (c : EntityKey × List Found). let d : EntityKey × List Standing = (c.0, renewed (list_under c.0 (feeds f).entities) n c.1) in d) (entities_in x.feed x.bytes))
 
   -- ---- what is owed
   pub is_next : IsNext t n s feeds (feed_of next)
@@ -213,10 +225,11 @@ module _ (t : Option Tables) (n : ℕ) (state : State) (s : Snapshot) (is : IsSt
     last = last_is;
     header = ap (λ (x : HeldHeader). x.list) into.header_is;
     headers_stay = λ f h. ap (λ (x : HeldHeader). x.list) (into.others_stay f h);
+    peaks = into.peaks_are;
     entities = λ f.
         entities_then f
-        ∙ ap (λ u. renewed_lists (feeds f).entities n (entities_found t u (later f).last)) (sym rows_are)
-        ∙ ap (λ o. renewed_lists (feeds f).entities n (entities_found t (rows_held (feed_of next)) o)) (sym (last_is f));
+        ∙ ap (λ u. renewed_lists (feeds f).entities n (entities_found t u (later f).last)) (sym gathered_are)
+        ∙ ap (λ o. renewed_lists (feeds f).entities n (entities_found t (gathered_held (feed_of next)) o)) (sym (last_is f));
   }
     where
       more : (m : ℕ) → m < 16 → m < 256
@@ -243,12 +256,12 @@ module _ (t : Option Tables) (n : ℕ) (state : State) (s : Snapshot) (is : IsSt
 
   pub is_cached : AreCached t last (feed_of next)
   is_cached =
-      let then_cached : AreCached t last later = cached_then t n state s is taken fits cached rows alike local paired bounded touched mid.index last placed before after judged in
+      let then_cached : AreCached t last later = cached_then t n state s is taken fits cached rows alike (peak_of mid.peaks) into.peaks_are local paired bounded peaked touched mid.index last placed before after judged in
       record {
         local_are = then_cached.local_are;
         paired_are = λ k. then_cached.paired_are k ∙ ap (λ u. found_under (paired_found u) last k) (sym rows_are);
         bounded_are = λ k. then_cached.bounded_are k ∙ moved k (payload_at last k);
-        further_are = then_cached.further_are;
+        peaked_are = λ k. then_cached.peaked_are k ∙ ap (λ (u : PeakMap). found_under (peaked_found u) last k) (sym (fun_ext peaks_are));
       }
     where
       moved : (k : EntityKey) (o : Option (List ℕ)) → found_in (bounded_in later) k o ≡ found_in (bounded_in (feed_of next)) k o

@@ -5,18 +5,19 @@ use Rattle.feed_values.specs.Snapshot.{entity_of, header_of, timestamp_of}
 use Rattle.timetable.specs.Timetables.{Tables}
 use Rattle.rule_table.specs.declared.rule.RuleId.{RuleId}
 use Rattle.rule_table.specs.declared.key.EntityKey.{EntityKey}
-use Rattle.rule_table.specs.Answers.{pair_answer, bound_answer}
+use Rattle.rule_table.specs.Answers.{pair_answer, bound_answer, peak_answer}
 use Rattle.rule_table.specs.Found.{Found}
 use Rattle.rule_table.specs.Groups.{has_rule}
 use Rattle.rule_table.specs.Judged.{found_all}
 use Rattle.rule_table.specs.Pairs.{PairRow}
+use Rattle.rule_table.specs.Peaks.{PeakMap}
 use Rattle.rule_history.specs.Answered.{local_answer}
 use Rattle.rule_history.specs.History.{Snapshot}
 use Rattle.rule_history.specs.Standing.{Standing, opened, closed}
 use Rattle.message_rules.specs.Message.{message_rules}
 use Rattle.schedule_rules.specs.Schedule.{schedule_rules}
 use Rattle.pairing_rules.specs.Pairing.{pairing_rules}
-use Rattle.history_rules.specs.Rules.{bound_rules}
+use Rattle.history_rules.specs.Rules.{bound_rules, peak_rules}
 use Rattle.judging.specs.Ruled.{in_rule_order}
 use Rattle.engine_laws.specs.HeldFeeds.{HeldFeed, rows_held}
 use Rattle.engine_laws.specs.Order.{found_cmp, Rises}
@@ -26,9 +27,9 @@ use Rattle.engine_laws.proofs.Next.{renewed-itself}
 use Rattle.part_laws.specs.FourParts.{AreFoundOf, AreInRuleOrder, AreParts, IsInRuleOrder, StandOf, found_in_order, spots_in_order, standings_in_order}
 use Rattle.part_laws.proofs.FourParts.{in_order_renewed, merged_opens, merged_closes}
 use Rattle.entity_index.specs.Held.{HeldEntities}
-use Rattle.entity_parts.specs.Found.{local_found, paired_found, bounded_found, local_rules}
-use Rattle.entity_parts.specs.Rising.{local_rises, paired_rises, bounded_rises}
-use Rattle.entity_parts.proofs.Whole.{four_groups, local_of, paired_of, bounded_of}
+use Rattle.entity_parts.specs.Found.{local_found, paired_found, bounded_found, peaked_found, local_rules}
+use Rattle.entity_parts.specs.Rising.{local_rises, paired_rises, bounded_rises, peaked_rises}
+use Rattle.entity_parts.proofs.Whole.{four_groups, local_of, paired_of, bounded_of, peaked_of}
 use Rattle.touched_entities.specs.Again.{found_in, list_under, lists_under, payload_at}
 use Rattle.touched_entities.specs.Told.{told_parts}
 use Rattle.cached_laws.specs.State.{whole_of}
@@ -79,6 +80,14 @@ bounded_part (Some s) k (Some p) xs h = record {
   ordered = ordered_of xs (found_all bound_rules (bound_answer (timestamp_of (header_of s.bytes)) s.moment k (entity_of p)) k (entity_of p)) h (bounded_rises (timestamp_of (header_of s.bytes)) s.moment k (entity_of p));
 }
 
+peaked_part : (peaks : PeakMap) (k : EntityKey) (o : Option (List ℕ)) (xs : List Standing) → findings_of xs ≡ found_in (peaked_found peaks) k o → IsPart peak_rules xs
+unfolding in_rule_order
+peaked_part peaks k None xs h = no_part peak_rules xs h
+peaked_part peaks k (Some p) xs h = record {
+  stand = stand_of peak_rules xs (peaked_found peaks k (entity_of p)) h (peaked_of peaks k (entity_of p));
+  ordered = ordered_of xs (found_all peak_rules (peak_answer peaks k (entity_of p)) k (entity_of p)) h (peaked_rises peaks k (entity_of p));
+}
+
 module _ (t : Option Tables) (index : List HeldEntities) (feeds : ℕ → HeldFeed) (cached : AreCached t index feeds) (k : EntityKey) where
   pub local_is : IsPart local_rules (list_under index k 0)
   local_is = local_part t k (payload_at index k) (list_under index k 0) (cached.local_are k)
@@ -93,13 +102,16 @@ module _ (t : Option Tables) (index : List HeldEntities) (feeds : ℕ → HeldFe
   pub bounded_is : IsPart bound_rules (list_under index k 2)
   bounded_is = bounded_part (feeds k.feed).last k (payload_at index k) (list_under index k 2) (cached.bounded_are k ∙ bounded_at (payload_at index k))
 
-  pub parts_are : AreParts local_rules pairing_rules bound_rules [] (list_under index k 0) (list_under index k 1) (list_under index k 2) (list_under index k 3)
+  pub peaked_is : IsPart peak_rules (list_under index k 3)
+  peaked_is = peaked_part (λ f. (feeds f).peaks) k (payload_at index k) (list_under index k 3) (cached.peaked_are k)
+
+  pub parts_are : AreParts local_rules pairing_rules bound_rules peak_rules (list_under index k 0) (list_under index k 1) (list_under index k 2) (list_under index k 3)
   parts_are = record {
     groups = four_groups;
     first = local_is.stand;
     second = paired_is.stand;
     third = bounded_is.stand;
-    fourth = subst (StandOf []) (sym (cached.further_are k)) tt;
+    fourth = peaked_is.stand;
   }
 
   pub in_order : AreInRuleOrder (list_under index k 0) (list_under index k 1) (list_under index k 2) (list_under index k 3)
@@ -107,7 +119,7 @@ module _ (t : Option Tables) (index : List HeldEntities) (feeds : ℕ → HeldFe
     first = local_is.ordered;
     second = paired_is.ordered;
     third = bounded_is.ordered;
-    fourth = subst IsInRuleOrder (sym (cached.further_are k)) refl;
+    fourth = peaked_is.ordered;
   }
 
 -- What is told part by part, put rule by rule, is what opened and closed in the whole.
@@ -120,7 +132,7 @@ module _ (t u : Option Tables) (one two : List HeldEntities) (f g : ℕ → Held
       ap standings_in_order
       (four (opened (findings_of (list_under one k 0)) (list_under two k 0)) (opened (findings_of (list_under one k 1)) (list_under two k 1))
       (opened (findings_of (list_under one k 2)) (list_under two k 2)) (opened (findings_of (list_under one k 3)) (list_under two k 3)))
-      ∙ sym (merged_opens local_rules pairing_rules bound_rules [] (list_under one k 0) (list_under one k 1) (list_under one k 2) (list_under one k 3)
+      ∙ sym (merged_opens local_rules pairing_rules bound_rules peak_rules (list_under one k 0) (list_under one k 1) (list_under one k 2) (list_under one k 3)
       (list_under two k 0) (list_under two k 1) (list_under two k 2) (list_under two k 3) (parts_are t one f was k) (parts_are u two g is k) (in_order u two g is k))
 
   pub closed_whole : spots_in_order (told_parts (lists_under one k) (lists_under two k)).closed ≡ closed (findings_of (whole_of (lists_under one k))) (findings_of (whole_of (lists_under two k)))
@@ -128,5 +140,5 @@ module _ (t u : Option Tables) (one two : List HeldEntities) (f g : ℕ → Held
       ap spots_in_order
       (four (closed (findings_of (list_under one k 0)) (findings_of (list_under two k 0))) (closed (findings_of (list_under one k 1)) (findings_of (list_under two k 1)))
       (closed (findings_of (list_under one k 2)) (findings_of (list_under two k 2))) (closed (findings_of (list_under one k 3)) (findings_of (list_under two k 3))))
-      ∙ sym (merged_closes local_rules pairing_rules bound_rules [] (list_under one k 0) (list_under one k 1) (list_under one k 2) (list_under one k 3)
+      ∙ sym (merged_closes local_rules pairing_rules bound_rules peak_rules (list_under one k 0) (list_under one k 1) (list_under one k 2) (list_under one k 3)
       (list_under two k 0) (list_under two k 1) (list_under two k 2) (list_under two k 3) (parts_are t one f was k) (parts_are u two g is k) (in_order t one f was k))

@@ -6,15 +6,14 @@ use Rattle.timetable.specs.Timetables.{Tables}
 use Rattle.rule_table.specs.declared.key.EntityKey.{EntityKey}
 use Rattle.rule_history.specs.History.{Snapshot, IsTaken}
 use Rattle.rule_history.specs.Changed.{is_paired, keeps_bounds}
-use Rattle.rule_history.specs.Standing.{Standing}
-use Rattle.engine_laws.specs.HeldFeeds.{HeldFeed, rows_held}
+use Rattle.engine_laws.specs.HeldFeeds.{HeldFeed, peaks_after, rows_held}
 use Rattle.engine_laws.specs.Order.{found_cmp, Rises}
 use Rattle.part_laws.specs.Touched.{is_among}
 use Rattle.standing_walks.specs.Walked.{IsInOrder}
 use Rattle.entity_index.specs.Held.{HeldEntities}
 use Rattle.entity_index.specs.Lists.{Lists, list_of, no_lists}
 use Rattle.entity_parts.specs.Found.{local_found, paired_found}
-use Rattle.entity_parts.specs.Rising.{local_rises, paired_rises}
+use Rattle.entity_parts.specs.Rising.{local_rises, paired_rises, peaked_rises}
 use Rattle.row_changes.specs.Given.{rows_under}
 use Rattle.row_changes.specs.Held.{entity_at}
 use Rattle.row_changes.specs.Touched.{gives_later}
@@ -22,8 +21,8 @@ use Rattle.touched_entities.specs.Again.{list_under, lists_under, payload_at}
 use Rattle.touched_entities.specs.Exchanged.{IsExchanged}
 use Rattle.touched_entities.proofs.Fresh.{fresh_far, fresh_none}
 use Rattle.cached_laws.specs.State.{State, IsState, feed_of}
-use Rattle.cached_laws.specs.Cached.{AreCached, bounded_in}
-use Rattle.cached_laws.specs.Keys.{AreTouched, bytes_before, is_fresh_key, is_over_then, is_paired_then, lasts_then}
+use Rattle.cached_laws.specs.Cached.{AreCached, bounded_in, peaked_in}
+use Rattle.cached_laws.specs.Keys.{AreTouched, bytes_before, is_fresh_key, is_over_then, is_paired_then, is_peaked_then, gives_moved, lasts_then}
 use Rattle.cached_laws.specs.Judged.{CanBePassed}
 use Rattle.cached_laws.proofs.Bounds.{entity_then}
 use Rattle.cached_laws.proofs.Placed.{by_feed, lists_placed, payload_here, then_payload}
@@ -34,10 +33,10 @@ pub in_order_held : (t : Option Tables) (index : List HeldEntities) (feeds : ℕ
 in_order_held t index feeds cached k zero = subst (Rises found_cmp) (sym (cached.local_are k)) (found_rises (local_found t) (local_rises t) k (payload_at index k))
 in_order_held t index feeds cached k (suc zero) = subst (Rises found_cmp) (sym (cached.paired_are k)) (found_rises (paired_found (rows_held feeds)) (paired_rises (rows_held feeds)) k (payload_at index k))
 in_order_held t index feeds cached k (suc (suc zero)) = subst (Rises found_cmp) (sym (cached.bounded_are k)) (found_rises (bounded_in feeds) (λ q e. by_rises (feeds q.feed).last q e) k (payload_at index k))
-in_order_held t index feeds cached k (suc (suc (suc n))) = subst (λ (xs : List Standing). IsInOrder xs) (sym (cached.further_are k)) tt
+in_order_held t index feeds cached k (suc (suc (suc n))) = subst (Rises found_cmp) (sym (cached.peaked_are k)) (found_rises (peaked_in feeds) (peaked_rises (λ f. (feeds f).peaks)) k (payload_at index k))
 
 module _ (t : Option Tables) (state : State) (s : Snapshot) (is : IsState state) (taken : IsTaken s) (fits : s.feed < 16) (cached : AreCached t state.index (feed_of state))
-    (local paired bounded : List EntityKey) (touched : AreTouched state s local paired bounded) (first : List HeldEntities) (placed : IsExchanged s.feed s.bytes state.index first) where
+    (local paired bounded peaked : List EntityKey) (touched : AreTouched state s local paired bounded peaked) (first : List HeldEntities) (placed : IsExchanged s.feed s.bytes state.index first) where
   clash : {P : Type 0} → true ≡ false → P
   clash e = cc
 
@@ -79,6 +78,14 @@ module _ (t : Option Tables) (state : State) (s : Snapshot) (is : IsState state)
       (λ h. over_there k touched.bounded_are.before h none) (λ h. over_there k (Some touched.bounded_are.now) h none)))
       (sym (touched.bounded_are.keys_are.among k) ∙ m)
 
+  peaked_there : (k : EntityKey) → is_peaked_then state s k ≡ true → payload_at first k ≡ None → ⊥
+  peaked_there k h none =
+      clash (sym h ∙ ap (λ o. (k.feed == s.feed) && gives_moved (feed_of state s.feed).peaks (peaks_after s (feed_of state) s.feed) o) (none_then k none) ∙ and_none (k.feed == s.feed))
+    where
+      and_none : (b : Bool) → (b && false) ≡ false
+      and_none true = refl
+      and_none false = refl
+
   ordered_first : (k : EntityKey) (part : ℕ) → IsInOrder (list_under first k part)
   ordered_first k part = subst (λ (x : Option Lists). IsInOrder (list_of (unwrap_or x no_lists) part)) (sym (lists_placed state s is first placed k)) (go (payload_at first k))
     where
@@ -92,13 +99,15 @@ module _ (t : Option Tables) (state : State) (s : Snapshot) (is : IsState state)
       go None = nothing part
       go (Some p) = in_order_held t state.index (feed_of state) cached k part
 
-  pub can_pass : CanBePassed first local paired bounded
+  pub can_pass : CanBePassed first local paired bounded peaked
   can_pass = record {
     local_rise = touched.local_are.rise;
     paired_rise = touched.paired_are.rise;
     bounded_rise = touched.bounded_are.keys_are.rise;
+    peaked_rise = touched.peaked_are.rise;
     local_held = λ k m. some_or (payload_at first k) (fresh_there k (sym (touched.local_are.among k) ∙ m));
     paired_held = λ k m. some_or (payload_at first k) (λ none. choose (is_fresh_key state s k) (is_paired_then state s k) (λ h. fresh_there k h none) (λ h. paired_there k h none) (sym (touched.paired_are.among k) ∙ m));
     bounded_held = λ k m. some_or (payload_at first k) (bounded_there k m);
+    peaked_held = λ k m. some_or (payload_at first k) (λ none. choose (is_fresh_key state s k) (is_peaked_then state s k) (λ h. fresh_there k h none) (λ h. peaked_there k h none) (sym (touched.peaked_are.among k) ∙ m));
     ordered = ordered_first;
   }

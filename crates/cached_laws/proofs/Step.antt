@@ -1,6 +1,6 @@
 -- A snapshot judged part by part: each list of each entity is renewed by what its part finds there.
-use Rattle.std.specs.Prelude.{◌≡◌, ℕ, ◌<◌, ◌==◌, ◌&&◌, ◌||◌, Bool, true, false, List, [], Option, Some, None, option_map, unwrap_or, refl}
-use Rattle.std.proofs.Common.{sym, ap, ◌∙◌, subst, arith}
+use Rattle.std.specs.Prelude.{◌≡◌, ℕ, ◌<◌, ◌==◌, ◌&&◌, ◌||◌, Bool, true, false, List, [], Option, Some, None, option_map, unwrap_or, cond, refl}
+use Rattle.std.proofs.Common.{sym, ap, ◌∙◌, subst, arith, eq-eqb}
 use Rattle.std.proofs.lemmas.Bool.Decides.{nat_tests}
 use borrow.Author.Tests.{eqb-true}
 use Rattle.feed_values.specs.Schema.{Value}
@@ -9,22 +9,25 @@ use Rattle.feed_values.specs.Snapshot.{entity_of, header_of, timestamp_of}
 use Rattle.timetable.specs.Timetables.{Tables}
 use Rattle.rule_table.specs.declared.key.EntityKey.{EntityKey}
 use Rattle.rule_table.specs.Pairs.{PairRow}
+use Rattle.rule_table.specs.Peaks.{PeakMap, vehicle_id_of}
 use Rattle.rule_history.specs.History.{Snapshot, IsTaken}
-use Rattle.rule_history.specs.Changed.{is_paired}
+use Rattle.rule_history.specs.Changed.{is_paired, has_moved}
+use Rattle.rule_history.specs.Peaks.{raised_by}
 use Rattle.rule_history.specs.Standing.{Standing}
 use Rattle.pairing_rules.specs.ByKind.{AreAlike, alike-agree}
-use Rattle.engine_laws.specs.HeldFeeds.{HeldFeed, AreOwn, IsLastOf, rows_held}
+use Rattle.engine_laws.specs.HeldFeeds.{HeldFeed, AreOwn, IsLastOf, peaks_after, rows_held}
 use Rattle.engine_laws.specs.Order.{found_cmp, Rises}
 use Rattle.engine_laws.specs.Standings.{findings_of, renewed}
 use Rattle.engine_laws.proofs.Pairing.{pairing_keeps}
+use Rattle.engine_laws.proofs.Peaking.{not_moved}
 use Rattle.engine_laws.proofs.Since.{findings-renewed}
 use Rattle.engine_laws.proofs.Spots.{or_false}
 use Rattle.part_laws.specs.Touched.{is_among}
 use Rattle.entity_index.specs.Held.{HeldEntities}
 use Rattle.entity_index.specs.Lists.{Lists, no_lists, list_of, with_list}
-use Rattle.entity_parts.specs.Found.{local_found, paired_found, bounded_found}
-use Rattle.entity_parts.specs.Rising.{local_rises, paired_rises, bounded_rises}
-use Rattle.entity_parts.proofs.Whole.{paired_agree, paired_none}
+use Rattle.entity_parts.specs.Found.{local_found, paired_found, bounded_found, peaked_found}
+use Rattle.entity_parts.specs.Rising.{local_rises, paired_rises, bounded_rises, peaked_rises}
+use Rattle.entity_parts.proofs.Whole.{paired_agree, paired_none, peaked_same}
 use Rattle.row_changes.specs.Given.{rows_under}
 use Rattle.row_changes.specs.Held.{entity_at}
 use Rattle.row_changes.specs.Touched.{gives_later}
@@ -34,8 +37,8 @@ use Rattle.touched_entities.specs.Told.{FeedTold, Told, plus, told_at, told_betw
 use Rattle.touched_entities.proofs.Fresh.{fresh_far}
 use Rattle.touched_entities.proofs.OneMore.{same_payload}
 use Rattle.cached_laws.specs.State.{State, IsState, feed_of}
-use Rattle.cached_laws.specs.Cached.{AreCached, bounded_by, bounded_in}
-use Rattle.cached_laws.specs.Keys.{AreTouched, bytes_before, is_fresh_key, is_over_then, is_paired_then, lasts_then}
+use Rattle.cached_laws.specs.Cached.{AreCached, bounded_by, bounded_in, peaked_in}
+use Rattle.cached_laws.specs.Keys.{AreTouched, bytes_before, is_fresh_key, is_over_then, is_paired_then, is_peaked_then, gives_moved, lasts_then}
 use Rattle.cached_laws.specs.Judged.{AreJudged}
 use Rattle.cached_laws.proofs.Bounds.{bounded_stays, entity_then}
 use Rattle.cached_laws.proofs.Placed.{by_feed, last_far, last_here, last_payload, lists_placed, of_limit, then_payload, was_there}
@@ -58,8 +61,9 @@ and_neither true b q = q
 and_neither false b q = refl
 
 module _ (t : Option Tables) (n : ℕ) (state : State) (s : Snapshot) (is : IsState state) (taken : IsTaken s) (fits : s.feed < 16) (cached : AreCached t state.index (feed_of state))
-    (rows : List PairRow) (alike : AreAlike rows (rows_held (lasts_then s (feed_of state)))) (local paired bounded : List EntityKey) (touched : AreTouched state s local paired bounded)
-    (first last : List HeldEntities) (placed : IsExchanged s.feed s.bytes state.index first) (before after : List FeedTold) (judged : AreJudged t n s rows local paired bounded first last before after) where
+    (rows : List PairRow) (alike : AreAlike rows (rows_held (lasts_then s (feed_of state)))) (peaks : PeakMap) (raised : (f : ℕ) (vehicle : List ℕ) → peaks f vehicle ≡ peaks_after s (feed_of state) f vehicle) (local paired bounded peaked : List EntityKey)
+    (touched : AreTouched state s local paired bounded peaked)
+    (first last : List HeldEntities) (placed : IsExchanged s.feed s.bytes state.index first) (before after : List FeedTold) (judged : AreJudged t n s rows peaks local paired bounded peaked first last before after) where
   abbrev old : List HeldEntities
   old = state.index
 
@@ -79,6 +83,9 @@ module _ (t : Option Tables) (n : ℕ) (state : State) (s : Snapshot) (is : IsSt
   abbrev pub bounded_now : FindPart
   bounded_now = bounded_in later
 
+  abbrev pub peaked_now : FindPart
+  peaked_now = peaked_in later
+
   -- ---- the snapshots are the same while parts are judged
   pub payload_second : (k : EntityKey) → payload_at judged.second k ≡ payload_at first k
   payload_second k = same_payload first judged.second judged.local_is.feeds_are k
@@ -86,8 +93,11 @@ module _ (t : Option Tables) (n : ℕ) (state : State) (s : Snapshot) (is : IsSt
   pub payload_third : (k : EntityKey) → payload_at judged.third k ≡ payload_at first k
   payload_third k = same_payload judged.second judged.third judged.paired_is.feeds_are k ∙ payload_second k
 
+  pub payload_fourth : (k : EntityKey) → payload_at judged.fourth k ≡ payload_at first k
+  payload_fourth k = same_payload judged.third judged.fourth judged.bounded_is.feeds_are k ∙ payload_third k
+
   pub payload_last : (k : EntityKey) → payload_at last k ≡ payload_at first k
-  payload_last k = same_payload judged.third last judged.bounded_is.feeds_are k ∙ payload_third k
+  payload_last k = same_payload judged.fourth last judged.peaked_is.feeds_are k ∙ payload_fourth k
 
   -- ---- an entity that isn't fresh keeps a list that has what is found
   kept : (part : ℕ) (was now : FindPart) → list_of no_lists part ≡ [] → ((k : EntityKey) → findings_of (list_under old k part) ≡ found_under was old k) →
@@ -195,10 +205,52 @@ module _ (t : Option Tables) (n : ℕ) (state : State) (s : Snapshot) (is : IsSt
       (λ p now was. bounded_stays state s is taken fits bounded touched.bounded_are k p was (then_payload state s is first placed k ∙ now) h)
       ∙ ap (found_in bounded_now k) (sym (payload_third k))
 
-  last_lists : (k : EntityKey) → lists_at last k ≡ option_map (λ l. with_list l 2 (renewed (list_under judged.third k 2) n (found_under bounded_now judged.third k))) (lists_at judged.third k)
-  last_lists =
-      lists_all 2 n (bounded_found (timestamp_of (header_of s.bytes)) s.moment) bounded_now bounded judged.third last judged.third_told after judged.bounded_is
+  fourth_lists : (k : EntityKey) → lists_at judged.fourth k ≡ option_map (λ l. with_list l 2 (renewed (list_under judged.third k 2) n (found_under bounded_now judged.third k))) (lists_at judged.third k)
+  fourth_lists =
+      lists_all 2 n (bounded_found (timestamp_of (header_of s.bytes)) s.moment) bounded_now bounded judged.third judged.fourth judged.third_told judged.fourth_told judged.bounded_is
       (λ k. found_rises bounded_now (λ q e. by_rises (later q.feed).last q e) k (payload_at judged.third k)) bounded_same bounded_beside
+
+  -- ---- by peaks
+  peaked_agrees : (k : EntityKey) → is_peaked_then state s k ≡ false → (p : List ℕ) → payload_at first k ≡ Some p → peaked_in feeds k (entity_of p) ≡ peaked_now k (entity_of p)
+  peaked_agrees k h p now = peaked_same (λ f. (feeds f).peaks) (λ f. (later f).peaks) k (entity_of p) (λ vehicle given. one vehicle given (s.feed == k.feed) refl)
+    where
+      second : (a b : Bool) → a ≡ true → (a && b) ≡ false → b ≡ false
+      second a b e f = cc
+
+      turned : (a b : ℕ) → (b == a) ≡ true → (a == b) ≡ true
+      turned a b e = grind (arith, nat_tests)
+
+      stays : s.feed ≡ k.feed → has_moved (feeds s.feed).peaks (peaks_after s feeds s.feed) (vehicle_id_of (entity_of p)) ≡ false
+      stays same =
+          sym (ap (gives_moved (feeds s.feed).peaks (peaks_after s feeds s.feed)) (entity_then state s is taken fits k ∙ ap (option_map entity_of) (then_payload state s is first placed k ∙ now)))
+          ∙ second (k.feed == s.feed) _ (ap (λ f. k.feed == f) same ∙ eq-eqb k.feed k.feed refl) h
+
+      one : (vehicle : List ℕ) → vehicle_id_of (entity_of p) ≡ Some vehicle → (b : Bool) → (s.feed == k.feed) ≡ b → (feeds k.feed).peaks vehicle ≡ (later k.feed).peaks vehicle
+      one vehicle given true e =
+          subst (λ f. (feeds f).peaks vehicle ≡ peaks_after s feeds f vehicle) (eqb-true s.feed k.feed e)
+          (not_moved (feeds s.feed).peaks (peaks_after s feeds s.feed) (vehicle_id_of (entity_of p)) (stays (eqb-true s.feed k.feed e)) vehicle given)
+      one vehicle given false e = ap (λ b. cond b (raised_by (feeds k.feed).last (feeds k.feed).peaks vehicle) ((feeds k.feed).peaks vehicle)) (sym e)
+
+  peaked_beside : (k : EntityKey) → is_among peaked k ≡ false → findings_of (list_under judged.fourth k 3) ≡ found_under peaked_now judged.fourth k
+  peaked_beside k h =
+      let neither = or_false (is_fresh_key state s k) (is_peaked_then state s k) (sym (touched.peaked_are.among k) ∙ h) in
+      ap findings_of (other_list 2 3 (λ l xs. refl) _ (lists_at judged.third k) (lists_at judged.fourth k) (fourth_lists k))
+      ∙ ap findings_of (other_list 1 3 (λ l xs. refl) _ (lists_at judged.second k) (lists_at judged.third k) (third_lists k))
+      ∙ ap findings_of (other_list 0 3 (λ l xs. refl) _ (lists_at first k) (lists_at judged.second k) (second_lists k))
+      ∙ kept 3 (peaked_in feeds) peaked_now refl cached.peaked_are k neither.0 (λ p now was. peaked_agrees k neither.1 p now)
+      ∙ ap (found_in peaked_now k) (sym (payload_fourth k))
+
+  peaked_all : (k : EntityKey) → found_under (peaked_found peaks) judged.fourth k ≡ found_under peaked_now judged.fourth k
+  peaked_all k = go (payload_at judged.fourth k)
+    where
+      go : (o : Option (List ℕ)) → found_in (peaked_found peaks) k o ≡ found_in peaked_now k o
+      go None = refl
+      go (Some p) = peaked_same peaks (λ f. (later f).peaks) k (entity_of p) (λ vehicle given. raised k.feed vehicle)
+
+  last_lists : (k : EntityKey) → lists_at last k ≡ option_map (λ l. with_list l 3 (renewed (list_under judged.fourth k 3) n (found_under peaked_now judged.fourth k))) (lists_at judged.fourth k)
+  last_lists =
+      lists_all 3 n (peaked_found peaks) peaked_now peaked judged.fourth last judged.fourth_told after judged.peaked_is
+      (λ k. found_rises peaked_now (peaked_rises (λ f. (later f).peaks)) k (payload_at judged.fourth k)) (λ k m. peaked_all k) peaked_beside
 
   -- ---- all parts: what is under a key, by what stood there and what is there now
   abbrev pub lists_now : EntityKey → List ℕ → Lists
@@ -206,7 +258,7 @@ module _ (t : Option Tables) (n : ℕ) (state : State) (s : Snapshot) (is : IsSt
     local = renewed (list_under old k 0) n (local_now k (entity_of p));
     paired = renewed (list_under old k 1) n (paired_now k (entity_of p));
     bounded = renewed (list_under old k 2) n (bounded_now k (entity_of p));
-    further = list_under old k 3;
+    peaked = renewed (list_under old k 3) n (peaked_now k (entity_of p));
   }
 
   -- a list renewed in the place of what may be there
@@ -214,7 +266,7 @@ module _ (t : Option Tables) (n : ℕ) (state : State) (s : Snapshot) (is : IsSt
   step k part find o x = option_map (λ l. with_list l part (renewed (list_of (unwrap_or x no_lists) part) n (found_in find k o))) x
 
   abbrev steps : EntityKey → Option (List ℕ) → Option Lists → Option Lists
-  steps k o x = step k 2 bounded_now o (step k 1 paired_now o (step k 0 local_now o x))
+  steps k o x = step k 3 peaked_now o (step k 2 bounded_now o (step k 1 paired_now o (step k 0 local_now o x)))
 
   abbrev stood : EntityKey → Option (List ℕ) → Option Lists
   stood k o = option_map (λ p. lists_under old k) o
@@ -225,8 +277,11 @@ module _ (t : Option Tables) (n : ℕ) (state : State) (s : Snapshot) (is : IsSt
   third_step : (k : EntityKey) → lists_at judged.third k ≡ step k 1 paired_now (payload_at first k) (step k 0 local_now (payload_at first k) (stood k (payload_at first k)))
   third_step k = third_lists k ∙ ap (λ o. step k 1 paired_now o (lists_at judged.second k)) (payload_second k) ∙ ap (step k 1 paired_now (payload_at first k)) (second_step k)
 
+  fourth_step : (k : EntityKey) → lists_at judged.fourth k ≡ step k 2 bounded_now (payload_at first k) (step k 1 paired_now (payload_at first k) (step k 0 local_now (payload_at first k) (stood k (payload_at first k))))
+  fourth_step k = fourth_lists k ∙ ap (λ o. step k 2 bounded_now o (lists_at judged.third k)) (payload_third k) ∙ ap (step k 2 bounded_now (payload_at first k)) (third_step k)
+
   last_step : (k : EntityKey) → lists_at last k ≡ steps k (payload_at first k) (stood k (payload_at first k))
-  last_step k = last_lists k ∙ ap (λ o. step k 2 bounded_now o (lists_at judged.third k)) (payload_third k) ∙ ap (step k 2 bounded_now (payload_at first k)) (third_step k)
+  last_step k = last_lists k ∙ ap (λ o. step k 3 peaked_now o (lists_at judged.fourth k)) (payload_fourth k) ∙ ap (step k 3 peaked_now (payload_at first k)) (fourth_step k)
 
   pub lists_last : (k : EntityKey) → lists_at last k ≡ option_map (lists_now k) (payload_at first k)
   lists_last k = last_step k ∙ go (payload_at first k)
@@ -258,6 +313,12 @@ module _ (t : Option Tables) (n : ℕ) (state : State) (s : Snapshot) (is : IsSt
       other_list 1 2 (λ l xs. refl) _ (lists_at judged.second k) (lists_at judged.third k) (third_lists k)
       ∙ other_list 0 2 (λ l xs. refl) _ (lists_at first k) (lists_at judged.second k) (second_lists k)
 
+  fourth_peaked : (k : EntityKey) → list_under judged.fourth k 3 ≡ list_under first k 3
+  fourth_peaked k =
+      other_list 2 3 (λ l xs. refl) _ (lists_at judged.third k) (lists_at judged.fourth k) (fourth_lists k)
+      ∙ other_list 1 3 (λ l xs. refl) _ (lists_at judged.second k) (lists_at judged.third k) (third_lists k)
+      ∙ other_list 0 3 (λ l xs. refl) _ (lists_at first k) (lists_at judged.second k) (second_lists k)
+
   -- a list renewed, told
   abbrev told_by : EntityKey → FindPart → Option (List ℕ) → List Standing → Told
   told_by k find o xs = told_between xs (renewed xs n (found_in find k o))
@@ -275,14 +336,22 @@ module _ (t : Option Tables) (n : ℕ) (state : State) (s : Snapshot) (is : IsSt
       ∙ ap (λ o. plus (told_at judged.second_told k) (told_by k paired_now o (list_under first k 1))) (payload_second k)
       ∙ ap (λ xs. plus (told_at judged.second_told k) (told_between (list_under first k 1) xs)) (renewed_is k 1 paired_now refl (λ p. refl))
 
-  pub told_last : (k : EntityKey) → told_at after k ≡ plus (plus (plus (told_at before k) (part_told k 0)) (part_told k 1)) (part_told k 2)
-  told_last k =
-      told_all 2 n (bounded_found (timestamp_of (header_of s.bytes)) s.moment) bounded_now bounded judged.third last judged.third_told after judged.bounded_is
+  fourth_told : (k : EntityKey) → told_at judged.fourth_told k ≡ plus (told_at judged.third_told k) (part_told k 2)
+  fourth_told k =
+      told_all 2 n (bounded_found (timestamp_of (header_of s.bytes)) s.moment) bounded_now bounded judged.third judged.fourth judged.third_told judged.fourth_told judged.bounded_is
       (λ q. found_rises bounded_now (λ x e. by_rises (later x.feed).last x e) q (payload_at judged.third q)) bounded_same bounded_beside k
       ∙ ap (λ xs. plus (told_at judged.third_told k) (told_by k bounded_now (payload_at judged.third k) xs)) (third_bounded k)
       ∙ ap (λ o. plus (told_at judged.third_told k) (told_by k bounded_now o (list_under first k 2))) (payload_third k)
       ∙ ap (λ xs. plus (told_at judged.third_told k) (told_between (list_under first k 2) xs)) (renewed_is k 2 bounded_now refl (λ p. refl))
-      ∙ ap (λ x. plus x (part_told k 2)) (third_told k ∙ ap (λ x. plus x (part_told k 1)) (second_told k))
+
+  pub told_last : (k : EntityKey) → told_at after k ≡ plus (plus (plus (plus (told_at before k) (part_told k 0)) (part_told k 1)) (part_told k 2)) (part_told k 3)
+  told_last k =
+      told_all 3 n (peaked_found peaks) peaked_now peaked judged.fourth last judged.fourth_told after judged.peaked_is
+      (λ q. found_rises peaked_now (peaked_rises (λ f. (later f).peaks)) q (payload_at judged.fourth q)) (λ q m. peaked_all q) peaked_beside k
+      ∙ ap (λ xs. plus (told_at judged.fourth_told k) (told_by k peaked_now (payload_at judged.fourth k) xs)) (fourth_peaked k)
+      ∙ ap (λ o. plus (told_at judged.fourth_told k) (told_by k peaked_now o (list_under first k 3))) (payload_fourth k)
+      ∙ ap (λ xs. plus (told_at judged.fourth_told k) (told_between (list_under first k 3) xs)) (renewed_is k 3 peaked_now refl (λ p. refl))
+      ∙ ap (λ x. plus x (part_told k 3)) (fourth_told k ∙ ap (λ x. plus x (part_told k 2)) (third_told k ∙ ap (λ x. plus x (part_told k 1)) (second_told k)))
 
   -- ---- what is cached then
   found_now : (k : EntityKey) (part : ℕ) (find : FindPart) → list_of no_lists part ≡ [] → ((p : List ℕ) → list_of (lists_now k p) part ≡ renewed (list_under old k part) n (find k (entity_of p))) →
@@ -301,9 +370,5 @@ module _ (t : Option Tables) (n : ℕ) (state : State) (s : Snapshot) (is : IsSt
     local_are = λ k. found_now k 0 local_now refl (λ p. refl);
     paired_are = λ k. found_now k 1 paired_now refl (λ p. refl);
     bounded_are = λ k. found_now k 2 bounded_now refl (λ p. refl);
-    further_are = λ k. ap (λ (x : Option Lists). list_of (unwrap_or x no_lists) 3) (lists_last k) ∙ nothing k (payload_at first k);
+    peaked_are = λ k. found_now k 3 peaked_now refl (λ p. refl);
   }
-    where
-      nothing : (k : EntityKey) (o : Option (List ℕ)) → list_of (unwrap_or (option_map (lists_now k) o) no_lists) 3 ≡ []
-      nothing k None = refl
-      nothing k (Some p) = cached.further_are k

@@ -1,13 +1,14 @@
 -- What was told at an entity is what opened and closed there, part by part.
-use Rattle.std.specs.Prelude.{◌≡◌, ℕ, ◌<◌, Bool, true, false, List, [], Option, Some, None, option_map, is_none, unwrap_or, if◌then◌else◌, refl}
+use Rattle.std.specs.Prelude.{◌≡◌, ℕ, ◌<◌, Bool, true, false, List, Option, Some, None, option_map, is_none, unwrap_or, if◌then◌else◌, refl}
 use Rattle.std.proofs.Common.{sym, ap, ◌∙◌}
 use Rattle.timetable.specs.Timetables.{Tables}
 use Rattle.rule_table.specs.declared.key.EntityKey.{EntityKey}
 use Rattle.rule_table.specs.Pairs.{PairRow}
+use Rattle.rule_table.specs.Peaks.{PeakMap}
 use Rattle.rule_history.specs.History.{Snapshot, IsTaken, entities_in}
 use Rattle.rule_history.specs.Answered.{payload_under}
 use Rattle.pairing_rules.specs.ByKind.{AreAlike}
-use Rattle.engine_laws.specs.HeldFeeds.{rows_held}
+use Rattle.engine_laws.specs.HeldFeeds.{peaks_after, rows_held}
 use Rattle.part_laws.specs.Touched.{is_among}
 use Rattle.entity_index.specs.Changes.{gone_keys}
 use Rattle.entity_index.specs.Held.{HeldEntities, entities_before}
@@ -23,11 +24,12 @@ use Rattle.cached_laws.specs.Judged.{AreFirstTold, AreJudged}
 use Rattle.cached_laws.proofs.Gone.{gone_feed, gone_payload, gone_some}
 use Rattle.cached_laws.proofs.Placed.{by_feed, lists_placed, payload_far, payload_here, there}
 use Rattle.cached_laws.proofs.Renewed.{plus_none}
-use Rattle.cached_laws.proofs.Step.{cached_then, lists_last, part_told, told_last}
+use Rattle.cached_laws.proofs.Step.{lists_last, part_told, told_last}
 
 module _ (t : Option Tables) (n : ℕ) (state : State) (s : Snapshot) (is : IsState state) (taken : IsTaken s) (fits : s.feed < 16) (cached : AreCached t state.index (feed_of state))
-    (rows : List PairRow) (alike : AreAlike rows (rows_held (lasts_then s (feed_of state)))) (local paired bounded : List EntityKey) (touched : AreTouched state s local paired bounded)
-    (first last : List HeldEntities) (placed : IsExchanged s.feed s.bytes state.index first) (before after : List FeedTold) (judged : AreJudged t n s rows local paired bounded first last before after)
+    (rows : List PairRow) (alike : AreAlike rows (rows_held (lasts_then s (feed_of state)))) (peaks : PeakMap) (raised : (f : ℕ) (vehicle : List ℕ) → peaks f vehicle ≡ peaks_after s (feed_of state) f vehicle) (local paired bounded peaked : List EntityKey)
+    (touched : AreTouched state s local paired bounded peaked)
+    (first last : List HeldEntities) (placed : IsExchanged s.feed s.bytes state.index first) (before after : List FeedTold) (judged : AreJudged t n s rows peaks local paired bounded peaked first last before after)
     (told : AreFirstTold n s state before) where
   abbrev old : List HeldEntities
   old = state.index
@@ -57,21 +59,22 @@ module _ (t : Option Tables) (n : ℕ) (state : State) (s : Snapshot) (is : IsSt
           absurd (clash (payload_under k (entities_in s.feed s.bytes)) (sym (payload_here state s is first placed k q) ∙ none) (sym (gone_some s.feed (bytes_before state s.feed) s.bytes k p e) ∙ h))
 
   abbrev told_by_parts : EntityKey → Told → Told
-  told_by_parts k x = plus (plus (plus x (part_told t n state s is taken fits cached rows alike local paired bounded touched first last placed before after judged k 0)) (part_told t n state s is taken fits cached rows alike local paired bounded touched first last placed before after judged k 1)) (part_told t n state s is taken fits cached rows alike local paired bounded touched first last placed before after judged k 2)
+  told_by_parts k x = plus (plus (plus (plus x (part_told t n state s is taken fits cached rows alike peaks raised local paired bounded peaked touched first last placed before after judged k 0)) (part_told t n state s is taken fits cached rows alike peaks raised local paired bounded peaked touched first last placed before after judged k 1)) (part_told t n state s is taken fits cached rows alike peaks raised local paired bounded peaked touched first last placed before after judged k 2)) (part_told t n state s is taken fits cached rows alike peaks raised local paired bounded peaked touched first last placed before after judged k 3)
 
   last_none : (k : EntityKey) → payload_at first k ≡ None → lists_at last k ≡ None
-  last_none k h = lists_last t n state s is taken fits cached rows alike local paired bounded touched first last placed before after judged k ∙ ap (option_map _) h
+  last_none k h = lists_last t n state s is taken fits cached rows alike peaks raised local paired bounded peaked touched first last placed before after judged k ∙ ap (option_map _) h
 
   -- where nothing is before and after nothing is told
   parts_none : (k : EntityKey) (x : Told) → lists_at first k ≡ None → lists_at last k ≡ None → told_by_parts k x ≡ x
   parts_none k x p q =
-      ap (λ (o : Option Lists). three x o (lists_at last k)) p ∙ ap (λ (o : Option Lists). three x None o) q
-      ∙ plus_none (plus (plus x no_told) no_told) ∙ plus_none (plus x no_told) ∙ plus_none x
+      ap (λ (o : Option Lists). four x o (lists_at last k)) p ∙ ap (λ (o : Option Lists). four x None o) q
+      ∙ plus_none (plus (plus (plus x no_told) no_told) no_told) ∙ plus_none (plus (plus x no_told) no_told) ∙ plus_none (plus x no_told) ∙ plus_none x
     where
-      three : Told → Option Lists → Option Lists → Told
-      three x a b =
-          plus (plus (plus x (told_between (list_of (unwrap_or a no_lists) 0) (list_of (unwrap_or b no_lists) 0))) (told_between (list_of (unwrap_or a no_lists) 1) (list_of (unwrap_or b no_lists) 1)))
-          (told_between (list_of (unwrap_or a no_lists) 2) (list_of (unwrap_or b no_lists) 2))
+      between : Option Lists → Option Lists → ℕ → Told
+      between a b part = told_between (list_of (unwrap_or a no_lists) part) (list_of (unwrap_or b no_lists) part)
+
+      four : Told → Option Lists → Option Lists → Told
+      four x a b = plus (plus (plus (plus x (between a b 0)) (between a b 1)) (between a b 2)) (between a b 3)
 
   first_kept : (k : EntityKey) → gone k ≡ false → lists_under first k ≡ lists_under old k
   first_kept k h = ap (λ (o : Option Lists). unwrap_or o no_lists) (lists_placed state s is first placed k) ∙ go (payload_at first k) refl
@@ -83,21 +86,15 @@ module _ (t : Option Tables) (n : ℕ) (state : State) (s : Snapshot) (is : IsSt
   -- ---- all that is told at an entity
   pub told_is : (k : EntityKey) → told_at after k ≡ told_parts (lists_under old k) (lists_under last k)
   told_is k =
-      told_last t n state s is taken fits cached rows alike local paired bounded touched first last placed before after judged k
+      told_last t n state s is taken fits cached rows alike peaks raised local paired bounded peaked touched first last placed before after judged k
       ∙ ap (told_by_parts k) (told.gone_are k)
       ∙ either (gone k) refl
     where
-      further : told_between (list_under old k 3) (list_under last k 3) ≡ no_told
-      further =
-          ap (λ xs. told_between xs (list_under last k 3)) (cached.further_are k)
-          ∙ ap (told_between []) ((cached_then t n state s is taken fits cached rows alike local paired bounded touched first last placed before after judged).further_are k)
-
       either : (b : Bool) → gone k ≡ b → told_by_parts k (if b then told_left old k no_told else no_told) ≡ told_parts (lists_under old k) (lists_under last k)
       either true h =
           let none : payload_at first k ≡ None = gone_then k h in
           parts_none k (told_left old k no_told) (lists_placed state s is first placed k ∙ ap (option_map (λ p. lists_under old k)) none) (last_none k none)
           ∙ sym (ap (λ (o : Option Lists). told_parts (lists_under old k) (unwrap_or o no_lists)) (last_none k none))
       either false h =
-          ap (λ (l : Lists). plus (plus (plus no_told (told_between l.local (list_under last k 0))) (told_between l.paired (list_under last k 1))) (told_between l.bounded (list_under last k 2))) (first_kept k h)
-          ∙ sym (ap (plus (plus (plus (plus no_told (told_between (list_under old k 0) (list_under last k 0))) (told_between (list_under old k 1) (list_under last k 1))) (told_between (list_under old k 2) (list_under last k 2)))) further
-          ∙ plus_none (plus (plus (plus no_told (told_between (list_under old k 0) (list_under last k 0))) (told_between (list_under old k 1) (list_under last k 1))) (told_between (list_under old k 2) (list_under last k 2))))
+          ap (λ (l : Lists). plus (plus (plus (plus no_told (told_between l.local (list_under last k 0))) (told_between l.paired (list_under last k 1))) (told_between l.bounded (list_under last k 2))) (told_between l.peaked (list_under last k 3)))
+          (first_kept k h)

@@ -7,7 +7,7 @@ use Rattle.rule_history.specs.History.{Snapshot}
 use Rattle.engine_laws.specs.HeldFeeds.{HeldFeed, rows_held}
 use Rattle.engine_laws.specs.Standings.{findings_of}
 use Rattle.entity_index.specs.Held.{HeldEntities}
-use Rattle.entity_parts.specs.Found.{local_found, paired_found, bounded_found}
+use Rattle.entity_parts.specs.Found.{local_found, paired_found, bounded_found, peaked_found}
 use Rattle.touched_entities.specs.Again.{FindPart, found_under, list_under}
 
 -- what bounds find by the last snapshot of a feed
@@ -19,9 +19,13 @@ bounded_by (Some s) key e = bounded_found (timestamp_of (header_of s.bytes)) s.m
 abbrev pub bounded_in : (ℕ → HeldFeed) → FindPart
 bounded_in feeds key e = bounded_by (feeds key.feed).last key e
 
--- The first list has what is found with the timetable, the second with the pairing rows of all feeds, the third by bounds, and the fourth has nothing.
+-- what the peaks of all feeds find
+abbrev pub peaked_in : (ℕ → HeldFeed) → FindPart
+peaked_in feeds = peaked_found (λ f. (feeds f).peaks)
+
+-- The first list has what is found with the timetable, the second with the pairing rows of all feeds, the third by bounds, and the fourth by peaks.
 pub record AreCached (t : Option Tables) (index : List HeldEntities) (feeds : ℕ → HeldFeed) : Type 0 where
   pub local_are : (key : EntityKey) → findings_of (list_under index key 0) ≡ found_under (local_found t) index key
   pub paired_are : (key : EntityKey) → findings_of (list_under index key 1) ≡ found_under (paired_found (rows_held feeds)) index key
   pub bounded_are : (key : EntityKey) → findings_of (list_under index key 2) ≡ found_under (bounded_in feeds) index key
-  pub further_are : (key : EntityKey) → list_under index key 3 ≡ []
+  pub peaked_are : (key : EntityKey) → findings_of (list_under index key 3) ≡ found_under (peaked_in feeds) index key

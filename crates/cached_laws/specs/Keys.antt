@@ -2,12 +2,16 @@
 -- rests on concerns.
 use Rattle.std.specs.Prelude.{◌≡◌, ℕ, ◌==◌, pos, Bool, false, not, ◌&&◌, ◌||◌, List, [], Option, Some, None}
 use Rattle.feed_values.specs.Snapshot.{header_of, timestamp_of}
+use Rattle.feed_values.specs.Schema.{Value}
+use Rattle.feed_values.specs.Messages.{entity}
 use Rattle.rule_table.specs.declared.key.EntityKey.{EntityKey}
+use Rattle.rule_table.specs.Peaks.{vehicle_id_of}
 use Rattle.rule_table.specs.Order.{key_cmp}
 use Rattle.rule_table.specs.Rises.{Rises}
 use Rattle.rule_history.specs.History.{Snapshot}
-use Rattle.rule_history.specs.Changed.{is_paired, keeps_bounds}
-use Rattle.engine_laws.specs.HeldFeeds.{HeldFeed, last_after, rows_held}
+use Rattle.rule_history.specs.Changed.{is_paired, keeps_bounds, has_moved}
+use Rattle.rule_history.specs.Peaks.{FeedPeaks}
+use Rattle.engine_laws.specs.HeldFeeds.{HeldFeed, last_after, peaks_after, rows_held}
 use Rattle.part_laws.specs.Bounded.{low_bound}
 use Rattle.part_laws.specs.Touched.{is_among}
 use Rattle.entity_index.specs.Changes.{fresh_keys}
@@ -17,9 +21,9 @@ use Rattle.row_changes.specs.Held.{entity_at}
 use Rattle.row_changes.specs.Touched.{gives_later}
 use Rattle.cached_laws.specs.State.{State, feed_of}
 
--- the last snapshot of each feed once one more came
+-- the last snapshot and the peaks of each feed once one more came
 abbrev pub lasts_then : Snapshot → (ℕ → HeldFeed) → ℕ → HeldFeed
-lasts_then s old f = record { last = last_after s old f; header = []; entities = [] }
+lasts_then s old f = record { last = last_after s old f; header = []; entities = []; peaks = peaks_after s old f }
 
 -- the bytes of the last snapshot of a feed
 abbrev pub bytes_before : State → ℕ → Option (List ℕ)
@@ -33,6 +37,17 @@ abbrev pub is_paired_then : State → Snapshot → EntityKey → Bool
 is_paired_then state s key =
     let old : ℕ → HeldFeed = feed_of state in
     is_paired (rows_held old) (rows_held (lasts_then s old)) (rows_under key (entity_at (lasts_then s old) key))
+
+-- the vehicle of an entity that may be there has another peak
+abbrev pub gives_moved : FeedPeaks → FeedPeaks → Option (Value entity) → Bool
+gives_moved old new None = false
+gives_moved old new (Some e) = has_moved old new (vehicle_id_of e)
+
+-- the entity of the snapshot that is there then has such a vehicle
+abbrev pub is_peaked_then : State → Snapshot → EntityKey → Bool
+is_peaked_then state s key =
+    let old : ℕ → HeldFeed = feed_of state in
+    key.feed == s.feed && gives_moved (old s.feed).peaks (peaks_after s old s.feed) (entity_at (lasts_then s old) key)
 
 -- the keys of a part, in order, are those of a test
 pub record AreKeys (test : EntityKey → Bool) (keys : List EntityKey) : Type 0 where
@@ -60,7 +75,8 @@ pub record AreBoundedKeys (state : State) (s : Snapshot) (keys : List EntityKey)
   pub keys_are : AreKeys (λ key. is_fresh_key state s key || (not (keeps_bounds s (feed_of state s.feed).last) && (is_over_then state s before key || is_over_then state s (Some now) key))) keys
 
 -- the keys of all parts
-pub record AreTouched (state : State) (s : Snapshot) (local paired bounded : List EntityKey) : Type 0 where
+pub record AreTouched (state : State) (s : Snapshot) (local paired bounded peaked : List EntityKey) : Type 0 where
   pub local_are : AreKeys (is_fresh_key state s) local
   pub paired_are : AreKeys (λ key. is_fresh_key state s key || is_paired_then state s key) paired
   pub bounded_are : AreBoundedKeys state s bounded
+  pub peaked_are : AreKeys (λ key. is_fresh_key state s key || is_peaked_then state s key) peaked

@@ -9,8 +9,9 @@ use Rattle.rule_table.specs.Order.{key_cmp}
 use Rattle.rule_table.specs.Pairs.{PairRow}
 use Rattle.rule_table.specs.Rises.{Rises}
 use Rattle.rule_history.specs.History.{Snapshot, IsTaken}
+use Rattle.history_rules.specs.HeldPeaks.{peak_of}
 use Rattle.pairing_rules.specs.ByKind.{AreAlike}
-use Rattle.engine_laws.specs.Delta.{Delta, IsChange, bounded_held, paired_held, tested_held}
+use Rattle.engine_laws.specs.Delta.{Delta, IsChange, bounded_held, paired_held, peaked_held, tested_held}
 use Rattle.engine_laws.specs.HeldFeeds.{IsNext, held_after, rows_held}
 use Rattle.entity_index.specs.Changes.{fresh_places}
 use Rattle.entity_index.specs.Held.{HeldEntities}
@@ -29,39 +30,40 @@ pub record IsOwed (t : Option Tables) (n : ℕ) (s : Snapshot) (old new : State)
 
 -- what is at hand where a snapshot was judged after so many: the state before it, the rows and keys with which it was judged, and the state
 -- in which it took its place
-pub record IsAtHand (t : Option Tables) (n : ℕ) (state : State) (s : Snapshot) (rows : List PairRow) (local paired bounded : List EntityKey) (mid : State) : Type 0 where
+pub record IsAtHand (t : Option Tables) (n : ℕ) (state : State) (s : Snapshot) (rows : List PairRow) (local paired bounded peaked : List EntityKey) (mid : State) : Type 0 where
   pub is_state : IsState state
   pub cached : AreCached t state.index (feed_of state)
   pub taken : IsTaken s
   pub fits : s.feed < 16
   pub alike : AreAlike rows (rows_held (lasts_then s (feed_of state)))
-  pub touched : AreTouched state s local paired bounded
+  pub touched : AreTouched state s local paired bounded peaked
   pub into : IsTakenIn n s state mid
 
 -- Once the parts are judged under the touched keys alone, all is as it is owed.
 abbrev pub JudgedIsOwed : Type 0
-JudgedIsOwed = (t : Option Tables) (n : ℕ) (state : State) (s : Snapshot) (rows : List PairRow) (local paired bounded : List EntityKey) (mid : State) → IsAtHand t n state s rows local paired bounded mid →
-    (last : List HeldEntities) (before after : List FeedTold) → AreJudged t n s rows local paired bounded mid.index last before after → IsOwed t n s state (record { index = last; headers = mid.headers })
+JudgedIsOwed = (t : Option Tables) (n : ℕ) (state : State) (s : Snapshot) (rows : List PairRow) (local paired bounded peaked : List EntityKey) (mid : State) → IsAtHand t n state s rows local paired bounded peaked mid →
+    (last : List HeldEntities) (before after : List FeedTold) → AreJudged t n s rows (peak_of mid.peaks) local paired bounded peaked mid.index last before after → IsOwed t n s state (record { index = last; headers = mid.headers; peaks = mid.peaks })
 
 -- And what was told, handed out in order, with the numbers of keys, is what the snapshot changed.
 abbrev pub JudgedIsChange : Type 0
-JudgedIsChange = (t : Option Tables) (n : ℕ) (state : State) (s : Snapshot) (rows : List PairRow) (local paired bounded : List EntityKey) (mid : State) → IsAtHand t n state s rows local paired bounded mid →
-    (last : List HeldEntities) (before after : List FeedTold) → AreJudged t n s rows local paired bounded mid.index last before after → AreFirstTold n s state before → Each (λ x. Rises key_cmp (map (λ e. e.0) x.entities)) after →
+JudgedIsChange = (t : Option Tables) (n : ℕ) (state : State) (s : Snapshot) (rows : List PairRow) (local paired bounded peaked : List EntityKey) (mid : State) → IsAtHand t n state s rows local paired bounded peaked mid →
+    (last : List HeldEntities) (before after : List FeedTold) → AreJudged t n s rows (peak_of mid.peaks) local paired bounded peaked mid.index last before after → AreFirstTold n s state before → Each (λ x. Rises key_cmp (map (λ e. e.0) x.entities)) after →
     (d : Delta) → d.snapshot ≡ n → d.entities ≡ length (entity_payloads s.bytes) → d.opened ≡ flat_map feed_opened after → d.closed ≡ flat_map feed_closed after →
-    d.tested ≡ length local → d.paired ≡ length paired → d.bounded ≡ length bounded → IsChange n s (feed_of state) (feed_of (record { index = last; headers = mid.headers })) d
+    d.tested ≡ length local → d.paired ≡ length paired → d.bounded ≡ length bounded → d.peaked ≡ length peaked → IsChange n s (feed_of state) (feed_of (record { index = last; headers = mid.headers; peaks = mid.peaks })) d
 
 -- Under these keys the parts can be judged.
 abbrev pub TouchedCanPass : Type 0
-TouchedCanPass = (t : Option Tables) (state : State) (s : Snapshot) → IsState state → IsTaken s → s.feed < 16 → AreCached t state.index (feed_of state) → (local paired bounded : List EntityKey) → AreTouched state s local paired bounded →
-    (first : List HeldEntities) → IsExchanged s.feed s.bytes state.index first → CanBePassed first local paired bounded
+TouchedCanPass = (t : Option Tables) (state : State) (s : Snapshot) → IsState state → IsTaken s → s.feed < 16 → AreCached t state.index (feed_of state) → (local paired bounded peaked : List EntityKey) → AreTouched state s local paired bounded peaked →
+    (first : List HeldEntities) → IsExchanged s.feed s.bytes state.index first → CanBePassed first local paired bounded peaked
 
 -- There are as many fresh places, and as many keys of each part, as entities that the snapshot concerns.
-pub record AreSizes (t : Option Tables) (n : ℕ) (s : Snapshot) (state : State) (local paired bounded : List EntityKey) : Type 0 where
+pub record AreSizes (t : Option Tables) (n : ℕ) (s : Snapshot) (state : State) (local paired bounded peaked : List EntityKey) : Type 0 where
   pub fresh_are : length (fresh_places s.feed (bytes_before state s.feed) s.bytes) ≡ tested_held s (feed_of state)
   pub local_are : length local ≡ tested_held s (feed_of state)
   pub paired_are : length paired ≡ paired_held s (feed_of state) (held_after t n s (feed_of state))
   pub bounded_are : length bounded ≡ bounded_held s (feed_of state) (held_after t n s (feed_of state))
+  pub peaked_are : length peaked ≡ peaked_held s (feed_of state) (held_after t n s (feed_of state))
 
 abbrev pub KeysAreCounted : Type 0
-KeysAreCounted = (t : Option Tables) (n : ℕ) (state : State) (s : Snapshot) → IsState state → IsTaken s → s.feed < 16 → AreCached t state.index (feed_of state) → (local paired bounded : List EntityKey) → AreTouched state s local paired bounded →
-    AreSizes t n s state local paired bounded
+KeysAreCounted = (t : Option Tables) (n : ℕ) (state : State) (s : Snapshot) → IsState state → IsTaken s → s.feed < 16 → AreCached t state.index (feed_of state) → (local paired bounded peaked : List EntityKey) → AreTouched state s local paired bounded peaked →
+    AreSizes t n s state local paired bounded peaked

@@ -1,4 +1,4 @@
--- What an incremental engine holds of its feeds: their entities with four lists each, and what stands on their headers.
+-- What an incremental engine holds of its feeds: their entities with four lists each, what stands on their headers, and the peaks of vehicles.
 use Rattle.std.specs.Prelude.{◌≡◌, ℕ, ◌≤◌, List, [], map, get_or, Option, Some, None, IfSome}
 use Rattle.rule_table.specs.declared.key.EntityKey.{EntityKey}
 use Rattle.rule_history.specs.History.{Snapshot, IsTaken}
@@ -6,6 +6,7 @@ use Rattle.rule_history.specs.Standing.{Standing}
 use Rattle.engine_laws.specs.HeldFeeds.{HeldFeed, AreOwn}
 use Rattle.standing_walks.specs.Merged.{merged_four}
 use Rattle.standing_walks.specs.Walked.{IsInOrder}
+use Rattle.history_rules.specs.HeldPeaks.{HeldPeaks, peak_of}
 use Rattle.entity_index.specs.Held.{HeldEntities, entities_before, held_at}
 use Rattle.entity_index.specs.Lists.{Lists}
 
@@ -24,6 +25,7 @@ header_at headers f = get_or headers f no_header
 pub record State : Type 0 where
   pub index : List HeldEntities
   pub headers : List HeldHeader
+  pub peaks : HeldPeaks
 
 -- ---- as the definitions have it
 -- the snapshot of a feed with some bytes, if it has one
@@ -33,13 +35,14 @@ snapshot_with f moment (Some bytes) = Some (record { feed = f; moment = moment; 
 
 -- all that stands at an entity
 abbrev pub whole_of : Lists → List Standing
-whole_of l = merged_four l.local l.paired l.bounded l.further
+whole_of l = merged_four l.local l.paired l.bounded l.peaked
 
 abbrev pub feed_of : State → ℕ → HeldFeed
 feed_of s f = record {
   last = snapshot_with f (header_at s.headers f).moment (held_at s.index f).bytes;
   header = (header_at s.headers f).list;
   entities = map {B = EntityKey × List Standing} (λ c. (c.0, whole_of c.1)) (held_at s.index f).parts;
+  peaks = peak_of s.peaks f;
 }
 
 -- ---- What holds of it, whatever the timetable: the lists are under the keys of the snapshots, the snapshots are such as are taken, of 16 feeds, and what

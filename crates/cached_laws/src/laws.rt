@@ -17,7 +17,7 @@ pub fn touched_can_pass()
     ensures { TouchedCanPass }
 {}
 
-/// These keys are as many as the entities that the definitions call tested, paired and bounded.
+/// These keys are as many as the entities that the definitions call tested, paired, bounded and peaked.
 pub fn keys_are_counted()
     ensures { KeysAreCounted }
 {}

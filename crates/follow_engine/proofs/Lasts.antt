@@ -2,17 +2,21 @@
 use Rattle.std.specs.Prelude.{◌≡◌, ℕ, zero, suc, ◌+◌, ◌*◌, ◌<◌, ◌≤◌, nat_le, true, false, List, [], ◌∷◌, ◌++◌, length, map, get_or, Option, None, refl}
 use Rattle.std.proofs.Common.{sym, ap, ◌∙◌, subst, arith, length-append}
 use Rattle.std.proofs.lemmas.List.{get_or_past}
+use Rattle.std.proofs.Math.Path.{fun_ext}
 use borrow.Author.Tests.{leb-true, leb-false}
 use Rattle.timetable.specs.Timetables.{Tables}
 use Rattle.rule_table.specs.declared.key.EntityKey.{EntityKey}
+use Rattle.history_rules.specs.HeldPeaks.{HeldPeaks, peak_of}
 use Rattle.rule_history.specs.Standing.{Standing}
-use Rattle.rule_history.specs.Changed.{paired, tested, with}
+use Rattle.rule_history.specs.Changed.{bounded, paired, tested, with}
+use Rattle.rule_history.specs.Findings.{findings}
+use Rattle.rule_history.specs.Peaks.{FeedPeaks}
 use Rattle.rule_history.specs.History.{Snapshot, below, feed_limit, feed_limit-is, now}
-use Rattle.engine_laws.specs.Delta.{Delta, IsChange, IsDelta, bounded_held, paired_held, tested_held}
-use Rattle.engine_laws.specs.HeldFeeds.{HeldFeed, IsJoined, IsNext, feed_list, held_after, joined}
-use Rattle.engine_laws.specs.Standings.{Held, StandsFor}
+use Rattle.engine_laws.specs.Delta.{Delta, IsChange, IsDelta, bounded_held, paired_held, peaked_held, tested_held}
+use Rattle.engine_laws.specs.HeldFeeds.{HeldFeed, IsJoined, IsNext, feed_list, held_after, joined, no_feed}
+use Rattle.engine_laws.specs.Standings.{Held, Matches, StandsFor, renewed}
 use Rattle.engine_laws.proofs.Lists.{below-same}
-use Rattle.engine_laws.proofs.Proved.{counts_are_held, next_changes, next_stands, nothing_stands}
+use Rattle.engine_laws.proofs.Proved.{counts_are_held, next_changes, next_matches, next_numbers, next_stands, nothing_stands}
 use Rattle.entity_index.specs.Held.{HeldEntities, held_at, nothing}
 use Rattle.cached_laws.specs.State.{HeldHeader, State, IsState, feed_of, header_at, snapshot_with, whole_of}
 use Rattle.held_feeds.specs.Entities.{entities_after, entities_held, entities_said}
@@ -80,20 +84,26 @@ last_at state is f = elim (nat_le feed_limit f) as (λ b. nat_le feed_limit f �
 ] refl
 
 abbrev pub data_with : Option Tables → ℕ → State → Held
-data_with t n state = record { table = t; applied = n; last = lasts_of state; list = joined (feed_of state) }
+data_with t n state = record { table = t; applied = n; last = lasts_of state; peaks = peak_of state.peaks; list = joined (feed_of state) }
 
 pub are_joined : (t : Option Tables) (n : ℕ) (state : State) → IsState state → IsJoined (data_with t n state) (feed_of state)
-are_joined t n state is = record { last_is = last_at state is; list_is = refl }
+are_joined t n state is = record { last_is = last_at state is; peaks_are = λ f vehicle. refl; list_is = refl }
 
-module _ (t : Option Tables) (n : ℕ) (s : Snapshot) (old new : State) (was : IsState old) (is : IsState new) (next : IsNext t n s (feed_of old) (feed_of new)) where
-  pub stands_then : (x : Option Tables) (h : List Snapshot) → StandsFor (data_with t n old) x h → StandsFor (data_with t (n + 1) new) x (with h s)
-  stands_then x h st = next_stands (data_with t n old) (data_with t (n + 1) new) s (feed_of old) (feed_of new) was.own (are_joined t n old was) (are_joined t (n + 1) new is) refl refl next x h st
+module _ (t : Option Tables) (n : ℕ) (s : Snapshot) (old new : State) (was : IsState old) (is : IsState new) (next : IsNext t n s (feed_of old) (feed_of new)) (x : Option Tables) (h : List Snapshot) where
+  pub matches_then : Matches (data_with t n old) x h → Matches (data_with t (n + 1) new) x (with h s)
+  matches_then m = next_matches (data_with t n old) (data_with t (n + 1) new) s (feed_of old) (feed_of new) was.own (are_joined t n old was) (are_joined t (n + 1) new is) refl refl next x h m
 
-  pub changes_then : (d : Delta) → IsChange n s (feed_of old) (feed_of new) d → (x : Option Tables) (h : List Snapshot) → StandsFor (data_with t n old) x h → IsDelta x h s (joined (feed_of new)) d
-  changes_then d change x h st = next_changes (data_with t n old) (data_with t (n + 1) new) s (feed_of old) (feed_of new) was.own (are_joined t n old was) (are_joined t (n + 1) new is) next d change x h st
+  pub numbers_then : Matches (data_with t n old) x h → joined (feed_of new) ≡ renewed (joined (feed_of old)) (length h) (findings x (with h s))
+  numbers_then m = next_numbers (data_with t n old) (data_with t (n + 1) new) s (feed_of old) (feed_of new) was.own (are_joined t n old was) (are_joined t (n + 1) new is) next x h m
+
+  pub stands_then : StandsFor (data_with t n old) x h → StandsFor (data_with t (n + 1) new) x (with h s)
+  stands_then st = next_stands (data_with t n old) (data_with t (n + 1) new) s (feed_of old) (feed_of new) was.own (are_joined t n old was) (are_joined t (n + 1) new is) refl refl next x h st
+
+  pub changes_then : (d : Delta) → IsChange n s (feed_of old) (feed_of new) d → Matches (data_with t n old) x h → IsDelta x h s (joined (feed_of new)) d
+  changes_then d change m = next_changes (data_with t n old) (data_with t (n + 1) new) s (feed_of old) (feed_of new) was.own (are_joined t n old was) (are_joined t (n + 1) new is) next d change x h m
 
 -- what is owed by what is held is what is owed after the history
-module _ (t : Option Tables) (n : ℕ) (s : Snapshot) (old : State) (was : IsState old) (fits : s.feed < 16) (x : Option Tables) (h : List Snapshot) (st : StandsFor (data_with t n old) x h) where
+module _ (t : Option Tables) (n : ℕ) (s : Snapshot) (old : State) (was : IsState old) (fits : s.feed < 16) (x : Option Tables) (h : List Snapshot) (m : Matches (data_with t n old) x h) where
   within : s.feed < feed_limit
   within = subst (λ m. s.feed < m) (sym feed_limit-is) (more s.feed fits)
     where
@@ -101,30 +111,33 @@ module _ (t : Option Tables) (n : ℕ) (s : Snapshot) (old : State) (was : IsSta
       more m l = omega (arith, l)
 
   pub decodes_then : tested_held s (feed_of old) ≡ tested h s
-  decodes_then = sym (counts_are_held (data_with t n old) s (feed_of old) was.own (are_joined t n old was) within x h st).tested_is
+  decodes_then = sym (counts_are_held (data_with t n old) s (feed_of old) was.own (are_joined t n old was) within x h m).tested_is
 
   pub tests_then : tests_owed t n s (feed_of old) ≡ tests_of x h s
   tests_then =
-      let are = counts_are_held (data_with t n old) s (feed_of old) was.own (are_joined t n old was) within x h st in
-      ap (λ a. 10 + (40 * a + 3 * paired_held s (feed_of old) (held_after t n s (feed_of old)) + 2 * bounded_held s (feed_of old) (held_after t n s (feed_of old)))) (sym are.tested_is)
-      ∙ ap (λ a. 10 + (40 * tested h s + 3 * a + 2 * bounded_held s (feed_of old) (held_after t n s (feed_of old)))) (sym are.paired_is)
-      ∙ ap (λ a. 10 + (40 * tested h s + 3 * paired h s + 2 * a)) (sym are.bounded_is)
+      let are = counts_are_held (data_with t n old) s (feed_of old) was.own (are_joined t n old was) within x h m in
+      ap (λ a. 10 + (40 * a + 3 * paired_held s (feed_of old) (held_after t n s (feed_of old)) + 2 * bounded_held s (feed_of old) (held_after t n s (feed_of old)) + peaked_held s (feed_of old) (held_after t n s (feed_of old)))) (sym are.tested_is)
+      ∙ ap (λ a. 10 + (40 * tested h s + 3 * a + 2 * bounded_held s (feed_of old) (held_after t n s (feed_of old)) + peaked_held s (feed_of old) (held_after t n s (feed_of old)))) (sym are.paired_is)
+      ∙ ap (λ a. 10 + (40 * tested h s + 3 * paired h s + 2 * a + peaked_held s (feed_of old) (held_after t n s (feed_of old)))) (sym are.bounded_is)
+      ∙ ap (λ a. 10 + (40 * tested h s + 3 * paired h s + 2 * bounded x h s + a)) (sym are.peaked_is)
 
 -- ---- entities handed out are those of the history
-pub entities_stand : (t : Option Tables) (n : ℕ) (state : State) → IsState state → (x : Option Tables) (h : List Snapshot) → StandsFor (data_with t n state) x h → entities_held state ≡ entities_after h
-entities_stand t n state is x h st =
-    below-same (λ f. entities_said (feed_of state f).last) (λ f. entities_said (now h f)) feed_limit (λ f l. ap entities_said (sym (last_at state is f) ∙ st.last_is f))
+pub entities_stand : (t : Option Tables) (n : ℕ) (state : State) → IsState state → (x : Option Tables) (h : List Snapshot) → Matches (data_with t n state) x h → entities_held state ≡ entities_after h
+entities_stand t n state is x h m =
+    below-same (λ f. entities_said (feed_of state f).last) (λ f. entities_said (now h f)) feed_limit (λ f l. ap entities_said (sym (last_at state is f) ∙ m.last_is f))
 
 -- ---- nothing is held at first
-pub nothing_at : (index : List HeldEntities) (headers : List HeldHeader) → ((f : ℕ) → held_at index f ≡ nothing) → headers ≡ [] → (f : ℕ) → feed_of (record { index = index; headers = headers }) f ≡ record { last = None; header = []; entities = [] }
-nothing_at index headers none empty f =
-    ap (λ (hs : List HeldHeader). feed_of (record { index = index; headers = hs }) f) empty
-    ∙ ap (λ (x : HeldEntities). let y : HeldFeed = record { last = snapshot_with f 0 x.bytes; header = []; entities = map {B = EntityKey × List Standing} (λ c. (c.0, whole_of c.1)) x.parts } in y) (none f)
+pub nothing_at : (index : List HeldEntities) (headers : List HeldHeader) (peaks : HeldPeaks) → ((f : ℕ) → held_at index f ≡ nothing) → headers ≡ [] → ((f : ℕ) (vehicle : List ℕ) → peak_of peaks f vehicle ≡ None) → (f : ℕ) →
+    feed_of (record { index = index; headers = headers; peaks = peaks }) f ≡ no_feed
+nothing_at index headers peaks none empty nowhere f =
+    ap (λ (hs : List HeldHeader). feed_of (record { index = index; headers = hs; peaks = peaks }) f) empty
+    ∙ ap (λ (x : HeldEntities). let y : HeldFeed = record { last = snapshot_with f 0 x.bytes; header = []; entities = map {B = EntityKey × List Standing} (λ c. (c.0, whole_of c.1)) x.parts; peaks = peak_of peaks f } in y) (none f)
+    ∙ ap (λ (p : FeedPeaks). let y : HeldFeed = record { last = None; header = []; entities = []; peaks = p } in y) (fun_ext (nowhere f))
 
-module _ (state : State) (none : (f : ℕ) → feed_of state f ≡ record { last = None; header = []; entities = [] }) (is : IsState state) where
+module _ (state : State) (none : (f : ℕ) → feed_of state f ≡ no_feed) (is : IsState state) where
   no_lists : (n : ℕ) → below (λ f. feed_list (feed_of state f)) n ≡ []
   no_lists zero = refl
   no_lists (suc n) = ap (λ xs. xs ++ feed_list (feed_of state n)) (no_lists n) ∙ ap (λ (x : HeldFeed). feed_list x) (none n)
 
   pub nothing_then : (t : Option Tables) → StandsFor (data_with t 0 state) t []
-  nothing_then t = nothing_stands (data_with t 0 state) refl (λ f. last_at state is f ∙ ap (λ (x : HeldFeed). x.last) (none f)) (no_lists feed_limit)
+  nothing_then t = nothing_stands (data_with t 0 state) refl (λ f. last_at state is f ∙ ap (λ (x : HeldFeed). x.last) (none f)) (λ f vehicle. ap (λ (x : HeldFeed). x.peaks vehicle) (none f)) (no_lists feed_limit)

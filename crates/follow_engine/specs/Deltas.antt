@@ -12,4 +12,5 @@ delta_value d = record {
   tested = d.tested;
   paired = d.paired;
   bounded = d.bounded;
+  peaked = d.peaked;
 }

@@ -22,4 +22,6 @@ pub struct Delta {
     /// How many of its entities are new or have other bytes, or, where the header's timestamp or the moment is another than
     /// before, have a finding of E012 or E050 now or had one.
     pub bounded: u64,
+    /// How many of its entities are new or have other bytes, or give a vehicle whose peak is another than before.
+    pub peaked: u64,
 }

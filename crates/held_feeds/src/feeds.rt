@@ -7,6 +7,7 @@ ghost use Rattle.held_feeds.specs.States.{feed_at_hand};
 
 use entity_index::EntityIndex;
 use feed_values::Items;
+use history_rules::Peaks;
 use row_changes::HeldRows;
 use standing_walks::Standing;
 use std::alloc::{AllocError, Global};
@@ -27,11 +28,12 @@ impl Model for Header {
     ghost view = { λ h. record { moment = h.moment; list = h.list } };
 }
 
-/// The entities of all feeds with what stands at them, and the headers, each at the place of its feed's number.
+/// The entities of all feeds with what stands at them, the headers, each at the place of its feed's number, and the peaks of vehicles.
 #[derive(Drop)]
 pub struct HeldFeeds {
     pub index: EntityIndex,
     pub headers: Vec<Header>,
+    pub peaks: Peaks,
 }
 
 impl HeldFeeds {
@@ -86,7 +88,7 @@ pub fn put_header(
 }
 
 /// All that an engine holds of its feeds: the entities and headers, and the pairing rows and timestamps of the entities. Contracts see it as the
-/// entities' lists and the headers.
+/// entities' lists, the headers and the peaks.
 #[derive(Drop)]
 pub struct Feeds {
     pub held: HeldFeeds,
@@ -113,7 +115,7 @@ impl Feeds {
     }
 }
 
-/// The feeds that are left of 256, by number: what is held, and the number of the next. Contracts see it as the list of what is held of each.
+/// The feeds that are left of 256, by number: what is held, and the number of the next. Contracts see it as the list of what is handed out of each.
 #[derive(Drop)]
 pub(crate) struct FeedsIter<'a> {
     feeds: &'a Feeds,
@@ -122,10 +124,10 @@ pub(crate) struct FeedsIter<'a> {
 
 impl<'a> Model for FeedsIter<'a> {
     ghost use Rattle.std.specs.Prelude.{List, ◌≤◌};
-    ghost use Rattle.engine_laws.specs.HeldFeeds.{HeldFeed};
+    ghost use Rattle.held_feeds.specs.States.{HandedFeed};
     ghost use Rattle.held_feeds.specs.Left.{last_feeds};
 
-    ghost Value = { List HeldFeed };
+    ghost Value = { List HandedFeed };
 
     ghost view = { λ s. last_feeds s.feeds.now s.left };
 

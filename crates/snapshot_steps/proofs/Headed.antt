@@ -10,8 +10,7 @@ use Rattle.timetable.specs.Timetables.{Tables}
 use Rattle.rule_table.specs.Table.{all_rules}
 use Rattle.rule_table.specs.SameHeads.{heads_same}
 use Rattle.rule_table.specs.Found.{Found}
-use Rattle.rule_table.specs.Pairs.{PairRow}
-use Rattle.rule_table.specs.Answers.{heads_answer}
+use Rattle.rule_table.specs.Answers.{Gathered, heads_answer}
 use Rattle.rule_history.specs.Answered.{entities_differ, heads_of}
 use Rattle.rule_history.specs.History.{Snapshot}
 use Rattle.judging.specs.Whole as whole
@@ -20,13 +19,13 @@ use Rattle.engine_laws.proofs.AtHand.{heads_first}
 use Rattle.entity_index.specs.Changes.{is_reordered}
 use Rattle.cached_laws.specs.State.{snapshot_with}
 
-header_is : (t : Option Tables) (u : List PairRow) (s : Snapshot) (b : Option Snapshot) → whole.header_found t u (heads_of s b) s.feed ≡ head_found s b
+header_is : (t : Option Tables) (u : Gathered) (s : Snapshot) (b : Option Snapshot) → whole.header_found t u (heads_of s b) s.feed ≡ head_found s b
 unfolding whole.header_found
 header_is t u s b =
     heads_same (whole.feed_answer t u (heads_of s b)) (heads_answer (heads_of s b)) (λ a m. heads_first (heads_of s b) _ a m) s.feed all_rules refl
 
 -- what was found on a header, with the header before it
-pub head_is : (t : Option Tables) (u : List PairRow) (s : Snapshot) (b : Option Snapshot) (header : Value feed_header) (previous : Option (Value feed_header)) (changed : Bool) (fs : List Found) →
+pub head_is : (t : Option Tables) (u : Gathered) (s : Snapshot) (b : Option Snapshot) (header : Value feed_header) (previous : Option (Value feed_header)) (changed : Bool) (fs : List Found) →
     header ≡ header_of s.bytes → previous ≡ option_map (λ p. header_of p.bytes) b → changed ≡ entities_differ s.bytes b →
     fs ≡ whole.header_found t u (record { header = header; previous = previous; changed = changed; moment = s.moment }) s.feed → fs ≡ head_found s b
 head_is t u s b header previous changed fs h p d is =

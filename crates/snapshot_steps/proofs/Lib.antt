@@ -1,3 +1,4 @@
 pub mod Keys
 pub mod Headed
 pub mod Replaced
+pub mod Raised

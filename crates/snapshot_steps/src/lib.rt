@@ -1,8 +1,8 @@
 //! What one snapshot brings, which keys it touches, and what is found under them: the steps by which an engine follows it, each by itself.
 //!
 //! A `taken` snapshot is compared with the one that is held of its feed and decoded where it is new (`coming`); the pairing rows and timestamps of what
-//! came and went are exchanged (`moving`), which tells by keys what else is to be judged again (`touching`). Then its header is judged (`renewing`), and
-//! the three parts of entities' findings are judged under these keys (`parts`), by the groups of rules (`rules`).
+//! came and went are exchanged (`moving`), which tells by keys, with the peaks that it raises, what else is to be judged again (`touching`). Then its header is judged (`renewing`), and
+//! the four parts of entities' findings are judged under these keys (`parts`), by the groups of rules (`rules`).
 #![tactic(auto)]
 
 mod coming;

@@ -35,7 +35,7 @@ fn judge_header<T: Ledger>(
     ensures ticked { OnOk result (tests.new ≡ tests.old + 10) }
     ensures most { tests.new ≤ tests.old + 10 }
 {
-    judging.rules.all.judge_header(
+    judging.rules.headers.judge(
         judging.alloc,
         taken.feed,
         &coming.header,

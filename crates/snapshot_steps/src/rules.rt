@@ -1,14 +1,14 @@
 //! The groups of rules.
 
 use entity_parts::PartRules;
-use judging::AllRules;
+use judging::HeaderRules;
 use std::alloc::Global;
 use timetable::Timetable;
 
 /// The groups of rules: those that are judged on headers, and the parts that are judged at entities.
 #[derive(Drop)]
 pub struct Rules {
-    pub all: AllRules,
+    pub headers: HeaderRules,
     pub parts: PartRules,
 }
 

@@ -8,9 +8,12 @@ ghost use Rattle.rule_table.specs.Order.{key_cmp, same_key};
 ghost use Rattle.rule_history.specs.Changed.{keeps_bounds, same_number};
 ghost use Rattle.rule_history.specs.History.{IsTaken};
 ghost use Rattle.part_laws.specs.Touched.{is_among};
+ghost use Rattle.history_rules.specs.HeldPeaks.{peak_of};
+ghost use Rattle.entity_index.specs.Held.{entities_before};
+ghost use Rattle.vehicle_peaks.specs.Rises.{AreRises};
 ghost use Rattle.row_changes.specs.Touched.{is_over, is_over_given};
 ghost use Rattle.cached_laws.specs.State.{IsState, feed_of};
-ghost use Rattle.cached_laws.specs.Keys.{AreBoundedKeys, AreKeys, AreTouched, IsBoundOf};
+ghost use Rattle.cached_laws.specs.Keys.{AreBoundedKeys, AreKeys, AreTouched, IsBoundOf, bytes_before};
 ghost use Rattle.held_feeds.specs.States.{state_of};
 ghost use Rattle.snapshot_steps.specs.Coming.{IsComing};
 ghost use Rattle.snapshot_steps.specs.Moved.{IsMoved};
@@ -26,13 +29,16 @@ use row_changes::{bounded_keys, keys_above, low_bound, paired_keys};
 use rule_table::{EntityKey, keys_in_order};
 use std::alloc::{AllocError, Global};
 use std::collections::BTreeSet;
+use vehicle_peaks::Rises;
 
-/// The keys of each part, in order: the entities that are new or have other bytes, and for the second and third part those that rows or bounds concern.
+/// The keys of each part, in order: the entities that are new or have other bytes, and for the second, third and fourth part those that rows, bounds or
+/// peaks concern.
 #[derive(Drop)]
 pub struct Touched {
     pub local: Items<EntityKey>,
     pub paired: Items<EntityKey>,
     pub bounded: Items<EntityKey>,
+    pub peaked: Items<EntityKey>,
 }
 
 fn put_copies(
@@ -163,22 +169,28 @@ pub fn touch(
     taken: &Taken,
     coming: &Coming,
     moved: &Moved,
+    rises: &Rises,
 ) -> Result<Touched, AllocError>
     requires state { IsState (state_of held.now) }
     requires taken { IsTaken (snapshot_of taken.now) }
     requires feed { taken.now.feed < 16 }
     requires coming { IsComing (snapshot_of taken.now) held.now.index coming.now }
     requires moved { IsMoved (snapshot_of taken.now) (feed_of (state_of held.now)) moved.now }
-    ensures { IfOk result (λ t. AreTouched (state_of held.now) (snapshot_of taken.now) t.local t.paired t.bounded) }
+    requires rises { AreRises (entities_before taken.now.feed (bytes_before (state_of held.now) taken.now.feed)) (peak_of held.now.peaks taken.now.feed) rises.now }
+    ensures { IfOk result (λ t. AreTouched (state_of held.now) (snapshot_of taken.now) t.local t.paired t.bounded t.peaked) }
 {
     let fresh = coming.changes.keys.as_slice();
     let local = in_order(alloc, fresh)?;
     let concerned = paired_keys(alloc, &moved.rows.pairs, &moved.ids, moved.before)?;
     let paired = joined(alloc, fresh, concerned)?;
     let bounded = touch_bounded(alloc, held, taken, coming, moved)?;
+    let gone = coming.changes.gone.as_slice();
+    let raised = rises.keys(alloc, &held.index, taken.feed, gone)?;
+    let peaked = joined(alloc, fresh, raised)?;
     Ok(Touched {
         local,
         paired,
         bounded,
+        peaked,
     })
 }

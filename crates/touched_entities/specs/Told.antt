@@ -26,7 +26,7 @@ told_between old new = record { opened = opened (findings_of old) new; closed = 
 -- between four lists and those in their places, part by part
 abbrev pub told_parts : Lists → Lists → Told
 told_parts a b =
-    plus (plus (plus (plus no_told (told_between a.local b.local)) (told_between a.paired b.paired)) (told_between a.bounded b.bounded)) (told_between a.further b.further)
+    plus (plus (plus (plus no_told (told_between a.local b.local)) (told_between a.paired b.paired)) (told_between a.bounded b.bounded)) (told_between a.peaked b.peaked)
 
 -- ---- feeds
 -- on the header of a feed, and under the keys of its entities

@@ -8,6 +8,8 @@ use Rattle.held_feeds.specs.States.{state_of}
 use Rattle.snapshot_steps.specs.Taken.{snapshot_of}
 use Rattle.follow_engine.specs.Deltas.{delta_value}
 use Rattle.follow_engine.specs.Followed.{IsFollowed, tests_owed}
+use Rattle.cached_laws.specs.Keys.{lasts_then}
+use Rattle.follow_engine.proofs.Held.{same_entities}
 use Rattle.follow_engine.proofs.Owed.{ticks_are}
 use Rattle.follow_engine.proofs.following.follow.Goals as goal
 
@@ -51,8 +53,8 @@ returns-in_err-held-clause-most_tested g c =
     let state = state_of c.feeds.inside.held in
     let is = c.feeds.invariant.is_state in
     let cached = subst (λ (x : State). AreCached t x.index (feed_of x)) (sym c.feeds.view_is) c.requires.cached in
-    let touched = c.in_ok-coming.field-0.touched in
-    let size = ticks_are state s is c.requires.taken c.requires.feed t n cached touched.local touched.paired touched.bounded c.in_ok-coming.ensures.ready.touched_are ∙ ap (λ (x : State). tests_owed t n s (feed_of x)) c.feeds.view_is in
+    let touched = c.in_ok-coming.field-0.changed.touched in
+    let size = ticks_are state s is c.requires.taken c.requires.feed t n cached touched.local touched.paired touched.bounded touched.peaked c.in_ok-coming.ensures.ready.changed_is.touched_are ∙ ap (λ (x : State). tests_owed t n s (feed_of x)) c.feeds.view_is in
     subst (λ m. c.judge.new.tests ≤ c.args.tests.now + m) size c.judge.ensures.most
 
 pub returns-in_err-delta-clause-most_tested : goal.returns-in_err-delta-clause-most_tested
@@ -63,8 +65,8 @@ returns-in_err-delta-clause-most_tested g c =
     let state = state_of c.feeds.inside.held in
     let is = c.feeds.invariant.is_state in
     let cached = subst (λ (x : State). AreCached t x.index (feed_of x)) (sym c.feeds.view_is) c.requires.cached in
-    let touched = c.in_ok-coming.field-0.touched in
-    let size = ticks_are state s is c.requires.taken c.requires.feed t n cached touched.local touched.paired touched.bounded c.in_ok-coming.ensures.ready.touched_are ∙ ap (λ (x : State). tests_owed t n s (feed_of x)) c.feeds.view_is in
+    let touched = c.in_ok-coming.field-0.changed.touched in
+    let size = ticks_are state s is c.requires.taken c.requires.feed t n cached touched.local touched.paired touched.bounded touched.peaked c.in_ok-coming.ensures.ready.changed_is.touched_are ∙ ap (λ (x : State). tests_owed t n s (feed_of x)) c.feeds.view_is in
     subst (λ m. c.judge.new.tests ≤ c.args.tests.now + m) size c.judge.ensures.most
 
 pub returns-clause-most_tested : goal.returns-clause-most_tested
@@ -75,8 +77,8 @@ returns-clause-most_tested g c =
     let state = state_of c.feeds.inside.held in
     let is = c.feeds.invariant.is_state in
     let cached = subst (λ (x : State). AreCached t x.index (feed_of x)) (sym c.feeds.view_is) c.requires.cached in
-    let touched = c.in_ok-coming.field-0.touched in
-    let size = ticks_are state s is c.requires.taken c.requires.feed t n cached touched.local touched.paired touched.bounded c.in_ok-coming.ensures.ready.touched_are ∙ ap (λ (x : State). tests_owed t n s (feed_of x)) c.feeds.view_is in
+    let touched = c.in_ok-coming.field-0.changed.touched in
+    let size = ticks_are state s is c.requires.taken c.requires.feed t n cached touched.local touched.paired touched.bounded touched.peaked c.in_ok-coming.ensures.ready.changed_is.touched_are ∙ ap (λ (x : State). tests_owed t n s (feed_of x)) c.feeds.view_is in
     subst (λ m. c.judge.new.tests ≤ c.args.tests.now + m) size c.judge.ensures.most
 
 pub returns-clause-decoded : goal.returns-clause-decoded
@@ -95,8 +97,8 @@ returns-clause-tested g c =
     let state = state_of c.feeds.inside.held in
     let is = c.feeds.invariant.is_state in
     let cached = subst (λ (x : State). AreCached t x.index (feed_of x)) (sym c.feeds.view_is) c.requires.cached in
-    let touched = c.in_ok-coming.field-0.touched in
-    let size = ticks_are state s is c.requires.taken c.requires.feed t n cached touched.local touched.paired touched.bounded c.in_ok-coming.ensures.ready.touched_are ∙ ap (λ (x : State). tests_owed t n s (feed_of x)) c.feeds.view_is in
+    let touched = c.in_ok-coming.field-0.changed.touched in
+    let size = ticks_are state s is c.requires.taken c.requires.feed t n cached touched.local touched.paired touched.bounded touched.peaked c.in_ok-coming.ensures.ready.changed_is.touched_are ∙ ap (λ (x : State). tests_owed t n s (feed_of x)) c.feeds.view_is in
     c.in_ok-held.ensures.ticked ∙ ap (λ m. c.args.tests.now + m) size
 
 pub returns-clause-followed : goal.returns-clause-followed
@@ -109,5 +111,13 @@ returns-clause-followed g c =
       is = judged.is_state;
       next = judged.next;
       cached = judged.cached;
-      change = judged.change told.ordered (delta_value c.in_ok-delta.delta) told.snapshot (told.entities ∙ c.len-entities.ensures) told.opened told.closed told.tested told.paired told.bounded;
+      change = judged.change told.ordered (delta_value c.in_ok-delta.delta) told.snapshot (told.entities ∙ c.len-entities.ensures) told.opened told.closed told.tested told.paired told.bounded told.peaked;
     }
+
+pub invariant_of-result : goal.invariant_of-result
+invariant_of-result g c =
+    let s = snapshot_of c.args.taken in
+    let old = feed_of (state_of c.feeds.inside.held) in
+    let new = feed_of (state_of c.in_ok-held.field-0.held) in
+    let judged = c.in_ok-held.ensures.judged in
+    record { is_state = judged.is_state; rows_are = same_entities (lasts_then s old) new judged.next.last c.in_ok-coming.field-0.changed.moved.rows c.in_ok-coming.ensures.ready.changed_is.moved_is.replaced.held_are }

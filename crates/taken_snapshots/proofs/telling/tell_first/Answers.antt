@@ -5,7 +5,7 @@ use Rattle.rule_table.specs.Rises.{Rises}
 use Rattle.cached_laws.specs.Keys.{bytes_before}
 use Rattle.held_feeds.specs.States.{state_of}
 use Rattle.snapshot_steps.proofs.Replaced.{gone_rise}
-use Rattle.follow_engine.proofs.following.tell_first.Goals as goal
+use Rattle.taken_snapshots.proofs.telling.tell_first.Goals as goal
 
 pub close_gone-requires-clause-keys : goal.close_gone-requires-clause-keys
 close_gone-requires-clause-keys g c =

@@ -1,0 +1,10 @@
+//! A snapshot taken in: what it brings and touches is known before it takes its place among what is held (`preparing`); then it is put there, and what it
+//! changes is judged (`placing`), after what closes at entities that are gone and what opens and closes on its header (`telling`).
+#![tactic(auto)]
+
+mod placing;
+mod preparing;
+mod telling;
+
+pub use placing::{Judged, judge};
+pub use preparing::{Changed, Ready, prepare};

@@ -1,0 +1,4 @@
+pub mod Peaks
+pub mod Raising
+pub mod KeySets
+pub mod Entities
