@@ -6,17 +6,17 @@ use Rattle.std.specs.List.{cons_option}
 use denote.Ref.{Bor}
 use Rattle.feed_values.specs.declared.entity.Entity.{Entity}
 use Rattle.rule_table.specs.declared.key.EntityKey.{EntityKey}
-use Rattle.follow_engine.specs.Entities.{handed}
+use Rattle.follow_engine.specs.Entities.{keyed_value}
 use Rattle.alert_terms.specs.InForce.{KeyedEntity, Terms, alert_of, alerts_in, terms_of}
 
 -- ---- the entities that are left
 -- one that is handed out is the first of them
-pub handed_out : (left rest : List KeyedEntity) (r : Option (Bor EntityKey × Bor Entity)) (x : Bor EntityKey × Bor Entity) → r ≡ Some x → YieldsFirstBy handed (λ l. l) left r rest → left ≡ handed x ∷ rest
-handed_out left rest r x e y = subst (λ o. YieldsFirstBy handed (λ l. l) left o rest) e y
+pub handed_out : (left rest : List KeyedEntity) (r : Option (Bor EntityKey × Bor Entity)) (x : Bor EntityKey × Bor Entity) → r ≡ Some x → YieldsFirstBy keyed_value (λ l. l) left r rest → left ≡ keyed_value x ∷ rest
+handed_out left rest r x e y = subst (λ o. YieldsFirstBy keyed_value (λ l. l) left o rest) e y
 
 -- where none is, none was left
-pub none_left : (left rest : List KeyedEntity) (r : Option (Bor EntityKey × Bor Entity)) → r ≡ None → YieldsFirstBy handed (λ l. l) left r rest → left ≡ []
-none_left left rest r e y = (subst (λ o. YieldsFirstBy handed (λ l. l) left o rest) e y).0
+pub none_left : (left rest : List KeyedEntity) (r : Option (Bor EntityKey × Bor Entity)) → r ≡ None → YieldsFirstBy keyed_value (λ l. l) left r rest → left ≡ []
+none_left left rest r e y = (subst (λ o. YieldsFirstBy keyed_value (λ l. l) left o rest) e y).0
 
 given_first : (o : Option Terms) (rest : List Terms) → cons_option o [] ++ rest ≡ cons_option o rest
 given_first None rest = refl

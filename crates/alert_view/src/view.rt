@@ -3,7 +3,7 @@ ghost use Rattle.std.specs.Prelude.{◌≡◌, ◌++◌, ◌∷◌, [], List, Op
 ghost use Rattle.timetable.specs.Timetables.{Tables};
 ghost use Rattle.feed_values.specs.Views.{entity_value};
 ghost use Rattle.rule_history.specs.History.{Snapshot};
-ghost use Rattle.engine_laws.specs.Standings.{StandsFor};
+ghost use Rattle.engine_laws.specs.Standings.{Matches};
 ghost use Rattle.follow_engine.specs.Engines.{engine_data};
 ghost use Rattle.follow_engine.specs.Entities.{entities_after, entities_held};
 ghost use Rattle.alert_terms.specs.InForce.{alerts_in, in_force, next_change};
@@ -31,10 +31,10 @@ impl<'a> Model for AlertView<'a> {
 }
 
 impl<'a> AlertView<'a> {
-    /// Takes the alerts of the entities that an engine holds, which are those of every history that it stands for.
+    /// Takes the alerts of the entities that an engine holds, which are those of every history that it matches.
     pub fn new(alloc: Global, engine: &'a Engine) -> Result<AlertView<'a>, AllocError>
         ensures held { IfOk result (λ view. view ≡ alerts_in (entities_held engine.now.feeds)) }
-        ensures after { (t : Option Tables) (h : List Snapshot) → StandsFor (engine_data engine.now) t h → entities_held engine.now.feeds ≡ entities_after h }
+        ensures after { (t : Option Tables) (h : List Snapshot) → Matches (engine_data engine.now) t h → entities_held engine.now.feeds ≡ entities_after h }
     {
         let mut alerts = Items::new(alloc);
         for (key, entity) in engine.entities() {

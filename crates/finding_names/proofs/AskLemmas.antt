@@ -43,3 +43,4 @@ ask_read_back (ask.HasTrip k trip) h = ap (λ o. option_map (λ (p : Kind × Lis
 ask_read_back (ask.HasVehicle k vehicle) h = ap (λ o. option_map (λ (p : Kind × List ℕ). ask.HasVehicle p.0 p.1) (option_map (λ l. (l, vehicle)) o)) (kind_read k)
 ask_read_back (ask.FirstId feed vehicle) h = ap (λ o. option_map (λ (p : ℕ × List ℕ). ask.FirstId p.0 p.1) (option_map (λ m. (m, vehicle)) o)) (u8_read feed h)
 ask_read_back (ask.FirstOccurrence feed vehicle) h = ap (λ o. option_map (λ (p : ℕ × List ℕ). ask.FirstOccurrence p.0 p.1) (option_map (λ m. (m, vehicle)) o)) (u8_read feed h)
+ask_read_back (ask.Peak feed vehicle) h = ap (λ o. option_map (λ (p : ℕ × List ℕ). ask.Peak p.0 p.1) (option_map (λ m. (m, vehicle)) o)) (u8_read feed h)

@@ -138,3 +138,4 @@ ask_within name.HasTrip keys = free (λ p. ask.HasTrip p.0 p.1) (kind_and_text k
 ask_within name.HasVehicle keys = free (λ p. ask.HasVehicle p.0 p.1) (kind_and_text keys) (λ _. tt)
 ask_within name.FirstId keys = if_map IsAskWithin (λ p. ask.FirstId p.0 p.1) (feed_and_text keys) (feed_within keys)
 ask_within name.FirstOccurrence keys = if_map IsAskWithin (λ p. ask.FirstOccurrence p.0 p.1) (feed_and_text keys) (feed_within keys)
+ask_within name.Peak keys = if_map IsAskWithin (λ p. ask.Peak p.0 p.1) (feed_and_text keys) (feed_within keys)

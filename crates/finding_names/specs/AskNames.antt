@@ -33,9 +33,10 @@ name_text name.HasTrip = codes "has_trip"
 name_text name.HasVehicle = codes "has_vehicle"
 name_text name.FirstId = codes "first_id"
 name_text name.FirstOccurrence = codes "first_occurrence"
+name_text name.Peak = codes "peak"
 
 abbrev pub all_names : List AskName
-all_names = name.Cell ∷ name.HeadNow ∷ name.HeadBefore ∷ name.Moment ∷ name.Occurrence ∷ name.EntitiesChanged ∷ name.TripKnown ∷ name.RouteKnown ∷ name.AgencyKnown ∷ name.StopKind ∷ name.TripRoute ∷ name.TripDirection ∷ name.TripExact ∷ name.OnGrid ∷ name.VisitsTwice ∷ name.FirstArrival ∷ name.StopAt ∷ name.ArrivalAt ∷ name.DepartureAt ∷ name.FirstVehicle ∷ name.HasPair ∷ name.AnyRow ∷ name.HasTrip ∷ name.HasVehicle ∷ name.FirstId ∷ name.FirstOccurrence ∷ []
+all_names = name.Cell ∷ name.HeadNow ∷ name.HeadBefore ∷ name.Moment ∷ name.Occurrence ∷ name.EntitiesChanged ∷ name.TripKnown ∷ name.RouteKnown ∷ name.AgencyKnown ∷ name.StopKind ∷ name.TripRoute ∷ name.TripDirection ∷ name.TripExact ∷ name.OnGrid ∷ name.VisitsTwice ∷ name.FirstArrival ∷ name.StopAt ∷ name.ArrivalAt ∷ name.DepartureAt ∷ name.FirstVehicle ∷ name.HasPair ∷ name.AnyRow ∷ name.HasTrip ∷ name.HasVehicle ∷ name.FirstId ∷ name.FirstOccurrence ∷ name.Peak ∷ []
 
 -- the name of a text
 abbrev pub ask_name_of : List ℕ → Option AskName
@@ -69,3 +70,4 @@ name_of (ask.HasTrip k trip) = name.HasTrip
 name_of (ask.HasVehicle k vehicle) = name.HasVehicle
 name_of (ask.FirstId feed vehicle) = name.FirstId
 name_of (ask.FirstOccurrence feed vehicle) = name.FirstOccurrence
+name_of (ask.Peak feed vehicle) = name.Peak

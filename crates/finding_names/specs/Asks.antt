@@ -86,3 +86,4 @@ ask_of name.HasTrip keys = option_map (λ p. ask.HasTrip p.0 p.1) (kind_and_text
 ask_of name.HasVehicle keys = option_map (λ p. ask.HasVehicle p.0 p.1) (kind_and_text keys)
 ask_of name.FirstId keys = option_map (λ p. ask.FirstId p.0 p.1) (feed_and_text keys)
 ask_of name.FirstOccurrence keys = option_map (λ p. ask.FirstOccurrence p.0 p.1) (feed_and_text keys)
+ask_of name.Peak keys = option_map (λ p. ask.Peak p.0 p.1) (feed_and_text keys)

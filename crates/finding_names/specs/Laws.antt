@@ -26,6 +26,7 @@ IsAskWithin (ask.ArrivalAt trip n) = n < 2 ^ 32
 IsAskWithin (ask.DepartureAt trip n) = n < 2 ^ 32
 IsAskWithin (ask.FirstId feed vehicle) = feed < 2 ^ 8
 IsAskWithin (ask.FirstOccurrence feed vehicle) = feed < 2 ^ 8
+IsAskWithin (ask.Peak feed vehicle) = feed < 2 ^ 8
 IsAskWithin _ = ⊤
 
 -- what a name and keys say together

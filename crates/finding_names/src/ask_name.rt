@@ -31,9 +31,10 @@ pub enum AskName {
     HasVehicle,
     FirstId,
     FirstOccurrence,
+    Peak,
 }
 
-const NAMES: [AskName; 26] = [
+const NAMES: [AskName; 27] = [
     AskName::Cell,
     AskName::HeadNow,
     AskName::HeadBefore,
@@ -60,6 +61,7 @@ const NAMES: [AskName; 26] = [
     AskName::HasVehicle,
     AskName::FirstId,
     AskName::FirstOccurrence,
+    AskName::Peak,
 ];
 
 impl AskName {
@@ -100,6 +102,7 @@ impl AskName {
             AskName::HasVehicle => "has_vehicle",
             AskName::FirstId => "first_id",
             AskName::FirstOccurrence => "first_occurrence",
+            AskName::Peak => "peak",
         }
     }
 }

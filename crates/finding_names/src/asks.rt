@@ -71,6 +71,10 @@ pub fn ask_of(name: AskName, keys: &[Text]) -> Option<AskRef<'_>>
             let (feed, vehicle) = feed_and_text(keys)?;
             AskRef::FirstOccurrence(feed, vehicle)
         }
+        AskName::Peak => {
+            let (feed, vehicle) = feed_and_text(keys)?;
+            AskRef::Peak(feed, vehicle)
+        }
     };
     Some(ask)
 }

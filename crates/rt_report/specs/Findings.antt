@@ -54,6 +54,7 @@ ask_name (ask.HasTrip k trip) = codes "has_trip"
 ask_name (ask.HasVehicle k vehicle) = codes "has_vehicle"
 ask_name (ask.FirstId feed vehicle) = codes "first_id"
 ask_name (ask.FirstOccurrence feed vehicle) = codes "first_occurrence"
+ask_name (ask.Peak feed vehicle) = codes "peak"
 
 -- its keys as texts: paths as they are printed, numbers in decimal
 abbrev pub ask_keys : Ask → List (List ℕ)
@@ -83,6 +84,7 @@ ask_keys (ask.HasTrip k trip) = kind_name k ∷ trip ∷ []
 ask_keys (ask.HasVehicle k vehicle) = kind_name k ∷ vehicle ∷ []
 ask_keys (ask.FirstId feed vehicle) = decimal feed ∷ vehicle ∷ []
 ask_keys (ask.FirstOccurrence feed vehicle) = decimal feed ∷ vehicle ∷ []
+ask_keys (ask.Peak feed vehicle) = decimal feed ∷ vehicle ∷ []
 
 abbrev pub cell_data : CellValue → Data
 cell_data value.Missing = null

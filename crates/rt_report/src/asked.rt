@@ -51,6 +51,7 @@ pub(crate) fn ask_name(ask: &Ask) -> &'static str
         Ask::HasVehicle(_, _) => "has_vehicle",
         Ask::FirstId(_, _) => "first_id",
         Ask::FirstOccurrence(_, _) => "first_occurrence",
+        Ask::Peak(_, _) => "peak",
     }
 }
 
@@ -125,7 +126,7 @@ pub(crate) fn push_keys(alloc: Global, out: &mut Writer, ask: &Ask) -> Result<()
         Ask::HasPair(kind, trip, vehicle) => {
             push_three(out, kind_name(*kind), trip.as_str(), vehicle.as_str())
         }
-        Ask::FirstId(feed, id) | Ask::FirstOccurrence(feed, id) => {
+        Ask::FirstId(feed, id) | Ask::FirstOccurrence(feed, id) | Ask::Peak(feed, id) => {
             push_behind_number(out, *feed, id.as_str())
         }
     }

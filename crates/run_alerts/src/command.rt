@@ -6,7 +6,7 @@ ghost use Rattle.rt_outside.specs.Sink.{AppendsPrefix};
 ghost use Rattle.rt_outside.specs.Store.{contents_told};
 ghost use Rattle.timetable.specs.Timetables.{Tables};
 ghost use Rattle.rule_history.specs.History.{Snapshot};
-ghost use Rattle.engine_laws.specs.Standings.{StandsFor};
+ghost use Rattle.engine_laws.specs.Standings.{Matches};
 ghost use Rattle.follow_engine.specs.Engines.{engine_data};
 ghost use Rattle.follow_engine.specs.Entities.{entities_after, entities_held};
 ghost use Rattle.run_base.specs.Carried.{CarriesOut, exactly};
@@ -65,7 +65,7 @@ fn end_with_alerts<S: Sink, E: Sink>(
     err: &mut E,
 ) -> Status
     ensures ends { EndsWith (alerts_ending moment query.now (entities_held end.now.engine.feeds)) end.now.error (S.state out.old) (S.state out.new) (E.state err.old) (E.state err.new) result }
-    ensures after { (t : Option Tables) (h : List Snapshot) → StandsFor (engine_data end.now.engine) t h → entities_held end.now.engine.feeds ≡ entities_after h }
+    ensures after { (t : Option Tables) (h : List Snapshot) → Matches (engine_data end.now.engine) t h → entities_held end.now.engine.feeds ≡ entities_after h }
 {
     match put_alerts(alloc, moment, query, &end.engine, out) {
         Ok(()) => Status::found(end.error),
@@ -85,7 +85,7 @@ fn put_alerts<S: Sink>(
     ensures whole { OnOk result ((S.state out.new).written ≡ append_known (S.state out.old).written (alerts_text moment query.now (entities_held engine.now.feeds))) }
     ensures not_read { IsErrOf result Fault.Read → ⊥ }
     ensures write { IsErrOf result Fault.Write → Rose (S.state out.old).faults (S.state out.new).faults }
-    ensures after { (t : Option Tables) (h : List Snapshot) → StandsFor (engine_data engine.now) t h → entities_held engine.now.feeds ≡ entities_after h }
+    ensures after { (t : Option Tables) (h : List Snapshot) → Matches (engine_data engine.now) t h → entities_held engine.now.feeds ≡ entities_after h }
 {
     let text = alerts_text(alloc, moment, query, engine)?;
     Ok(put_all(out, &text)?)

@@ -3,7 +3,7 @@ ghost use Rattle.std.specs.Prelude.{◌≡◌, List, Option, IfOk};
 ghost use Rattle.std.specs.List.{flat_map};
 ghost use Rattle.timetable.specs.Timetables.{Tables};
 ghost use Rattle.rule_history.specs.History.{Snapshot};
-ghost use Rattle.engine_laws.specs.Standings.{StandsFor};
+ghost use Rattle.engine_laws.specs.Standings.{Matches};
 ghost use Rattle.follow_engine.specs.Engines.{engine_data};
 ghost use Rattle.follow_engine.specs.Entities.{entities_after, entities_held};
 ghost use Rattle.run_alerts.specs.Alerts.{alerts_text};
@@ -24,7 +24,7 @@ pub fn alerts_text(
     engine: &Engine,
 ) -> Result<Vec<u8>, AllocError>
     ensures text { IfOk result (λ text. text.items ≡ alerts_text moment query.now (entities_held engine.now.feeds)) }
-    ensures after { (t : Option Tables) (h : List Snapshot) → StandsFor (engine_data engine.now) t h → entities_held engine.now.feeds ≡ entities_after h }
+    ensures after { (t : Option Tables) (h : List Snapshot) → Matches (engine_data engine.now) t h → entities_held engine.now.feeds ≡ entities_after h }
 {
     let view = AlertView::new(alloc, engine)?;
     let in_force = view.in_force(alloc, moment, query)?;

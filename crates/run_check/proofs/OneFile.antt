@@ -1,8 +1,8 @@
 -- The report of `check` on one file is that of its snapshot by itself.
-use Rattle.std.proofs.Common.{◌≡◌, ℕ, zero, suc, ◌+◌, ◌*◌, ◌<◌, Bool, true, false, cond, ◌||◌, List, [], ◌∷◌, ◌++◌, map, length, refl, sym, ◌∙◌, ap, subst, arith, append-nil, Some, None, if◌then◌else◌, Result, Ok, Err}
+use Rattle.std.proofs.Common.{◌≡◌, ℕ, zero, suc, ◌+◌, ◌*◌, ◌<◌, Bool, true, false, cond, ◌||◌, List, [], ◌∷◌, ◌++◌, map, length, refl, sym, ◌∙◌, ap, subst, arith, append-nil, Some, None, Result, Ok, Err}
 use Rattle.std.specs.declared.option.Option.{Option}
 use Rattle.std.specs.FinMap.{get}
-use Rattle.std.specs.List.{flat_map, list_any}
+use Rattle.std.specs.List.{flat_map}
 use Rattle.rt_outside.specs.Store.{Contents}
 use Rattle.feed_values.specs.Snapshot.{entities_of}
 use Rattle.feed_codec.specs.declared.refusal.Reason.TheVariants.{NoFile}
@@ -13,7 +13,7 @@ use Rattle.timetable.specs.Timetables.{Tables}
 use Rattle.rule_table.specs.Found.{Found}
 use Rattle.rule_history.specs.History.{Snapshot, feed_limit, feed_limit-is}
 use Rattle.rule_history.specs.Findings.{findings}
-use Rattle.rule_history.specs.Changed.{bounded, paired, tested}
+use Rattle.rule_history.specs.Changed.{bounded, paired, peaked, tested}
 use Rattle.rule_history.specs.Standing.{Standing, Spot, stands_after}
 use Rattle.engine_laws.specs.Computed.{standing, standings, delta_after, since_of}
 use Rattle.engine_laws.specs.Delta.{Delta}
@@ -22,7 +22,6 @@ use Rattle.engine_laws.proofs.Proved.{no_findings}
 use Rattle.rt_report.specs.declared.finding.LineKind.TheVariants as line
 use Rattle.snapshot_lines.specs.Lines.{line_of, refused}
 use Rattle.run_rows.specs.declared.telling.Telling.TheVariants.{Counts}
-use Rattle.run_base.specs.declared.status.Status.TheVariants as answer
 use Rattle.rt_report.specs.FindingLines.{standing_text, finding_text, is_error, has_error, any_error}
 use Rattle.run_snapshot.specs.Reports.{accepted_report, accepted_text as first_text, snapshot_findings}
 use Rattle.run_base.specs.Report.{Report, file_report, found, judged_report, refused_report, snapshot_report}
@@ -82,16 +81,16 @@ module _ (t : Option Tables) (moment : ℕ) (file bytes : List ℕ) where
   feed_fits : 0 < feed_limit
   feed_fits = subst (λ n. 0 < n) (sym feed_limit-is) (omega arith)
 
-  counts : (e x y z n : ℕ) → e ≡ n → x ≡ n → y ≡ n → z ≡ n → (os : List Standing) (cs : List Spot) →
-      accepted_text 0 row (record { snapshot = 0; entities = e; opened = os; closed = cs; tested = x; paired = y; bounded = z }) ≡ first_text moment n
-  counts e x y z n a b c d os cs = rw (a, b, c, d) refl
+  counts : (e x y z w n : ℕ) → e ≡ n → x ≡ n → y ≡ n → z ≡ n → w ≡ n → (os : List Standing) (cs : List Spot) →
+      accepted_text 0 row (record { snapshot = 0; entities = e; opened = os; closed = cs; tested = x; paired = y; bounded = z; peaked = w }) ≡ first_text moment n
+  counts e x y z w n a b c d f os cs = rw (a, b, c, d, f) refl
 
   line_is : accepted_text 0 row (delta_after t [] first) ≡ first_text moment (length (entities_of bytes))
   line_is =
       let many = as_many bytes in
       let d : Delta = delta_after t [] first in
-      counts d.entities d.tested d.paired d.bounded (length (entities_of bytes)) many (first_is_new.all_tested first feed_fits ∙ many) (first_is_new.all_paired first feed_fits ∙ many)
-      (first_is_new.all_bounded t first feed_fits ∙ many) d.opened d.closed
+      counts d.entities d.tested d.paired d.bounded d.peaked (length (entities_of bytes)) many (first_is_new.all_tested first feed_fits ∙ many) (first_is_new.all_paired first feed_fits ∙ many)
+      (first_is_new.all_bounded t first feed_fits ∙ many) (first_is_new.all_peaked first feed_fits ∙ many) d.opened d.closed
 
   accepted_is : ended (all_findings t) (row_outcome Counts t [] 0 row (Ok bytes)) ≡ accepted_report t moment bytes
   unfolding snapshot_findings
@@ -101,13 +100,13 @@ module _ (t : Option Tables) (moment : ℕ) (file bytes : List ℕ) where
       ∙ ap (λ xs. xs ++ flat_map finding_text (findings t (first ∷ []))) (append-nil (accepted_text 0 row (delta_after t [] first)) ∙ line_is))
       refl (ap found (errors t first (findings t (first ∷ []))))
 
-  -- all its entities are tested, paired and bounded
+  -- all its entities are tested, paired, bounded and peaked
   work_is : plus (work_of t [] first) no_work ≡ first_work (length (entities_of bytes))
-  work_is = all_new (tested [] first) (paired [] first) (bounded t [] first) (length (entities_of bytes)) (first_is_new.all_tested first feed_fits ∙ as_many bytes) (first_is_new.all_paired first feed_fits ∙ as_many bytes)
-      (first_is_new.all_bounded t first feed_fits ∙ as_many bytes)
+  work_is = all_new (tested [] first) (paired [] first) (bounded t [] first) (peaked [] first) (length (entities_of bytes)) (first_is_new.all_tested first feed_fits ∙ as_many bytes) (first_is_new.all_paired first feed_fits ∙ as_many bytes)
+      (first_is_new.all_bounded t first feed_fits ∙ as_many bytes) (first_is_new.all_peaked first feed_fits ∙ as_many bytes)
     where
-      all_new : (x y z n : ℕ) → x ≡ n → y ≡ n → z ≡ n → counters (x + 0) ((10 + (40 * x + 3 * y + 2 * z)) + 0) ≡ first_work n
-      all_new x y z n a b c = same_work _ _ _ _ (omega (arith, a)) (omega (arith, a, b, c))
+      all_new : (x y z w n : ℕ) → x ≡ n → y ≡ n → z ≡ n → w ≡ n → counters (x + 0) ((10 + (40 * x + 3 * y + 2 * z + w)) + 0) ≡ first_work n
+      all_new x y z w n a b c d = same_work _ _ _ _ (omega (arith, a)) (omega (arith, a, b, c, d))
 
 -- ---- a file
 module _ (t : Option Tables) (moment : ℕ) (file : List ℕ) where

@@ -3,6 +3,7 @@ use Rattle.std.proofs.Common.{◌≡◌, ℕ, List, [], ◌∷◌, length, get_o
 use Rattle.timetable.specs.Timetables.{Tables}
 use Rattle.rule_history.specs.History.{Snapshot}
 use Rattle.std.specs.declared.option.Option.{Option}
+use Rattle.engine_laws.specs.Standings.{listed}
 use Rattle.engine_laws.proofs.Computed.{list_is_computed}
 use Rattle.follow_engine.specs.declared.engine.Engine.{Engine}
 use Rattle.follow_engine.specs.Engines.{engine_data}
@@ -11,7 +12,7 @@ use Rattle.run_check.specs.Check.{all_findings, findings_ending}
 
 -- the findings that an engine holds are those on the history that it stands for
 pub findings_held : (t : Option Tables) (engine : Engine) (h : List Snapshot) → Stands t engine h → findings_ending (engine_data engine).list ≡ all_findings t h
-findings_held t engine h stands = ap findings_ending (list_is_computed.is_only t h (engine_data engine).list stands.list_is)
+findings_held t engine h stands = ap findings_ending (list_is_computed.is_only t h (engine_data engine).list (listed (engine_data engine) t h stands))
 
 -- the one name of a list
 pub one_name : (names list : List (List ℕ)) (first name : List ℕ) → length names ≡ 1 → list ≡ names → first ≡ get_or list 0 first → name ≡ first → name ∷ [] ≡ names

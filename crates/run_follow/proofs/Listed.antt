@@ -25,7 +25,6 @@ use Rattle.run_rows.specs.Counted.{outcome_work}
 use Rattle.run_rows.specs.declared.telling.Telling.TheVariants.{Changes}
 use Rattle.run_rows.specs.Followed.{IsDone}
 use Rattle.run_rows.specs.Rows.{all_rows}
-use Rattle.run_timetable.specs.Timetables.{IsTableFile}
 use Rattle.run_follow.specs.Follow.{IsFollowed, IsListed, TellsListFault, followed, list_report, list_work, rows_report, rows_work}
 
 -- what is read without a timetable is read with one

@@ -5,7 +5,6 @@ use Rattle.std.specs.FinMap.{get}
 use Rattle.std.specs.List.{AllByRecursion}
 use Rattle.std.specs.Io.KnownBytes.{append_known}
 use Rattle.std.proofs.lemmas.List.{take-append-drop, take_more, take_all}
-use Rattle.rt_outside.specs.Causes.{Rose}
 use Rattle.rt_outside.specs.Store.{Contents}
 use Rattle.rt_outside.specs.Sink.{AppendsPrefix}
 use Rattle.rt_outside.proofs.Appends.{append_known-both, AppendsPrefix-first, AppendsPrefix-second, AppendsPrefix-whole}
@@ -15,11 +14,10 @@ use Rattle.timetable.specs.Timetables.{Tables}
 use Rattle.rule_history.specs.History.{Snapshot}
 use Rattle.rule_history.specs.Changed.{with}
 use Rattle.engine_laws.specs.Delta.{Delta, IsDelta}
+use Rattle.engine_laws.specs.Standings.{Matches, listed}
 use Rattle.engine_laws.proofs.Computed.{delta_is_computed}
 use Rattle.follow_engine.specs.declared.engine.Engine.{Engine}
 use Rattle.follow_engine.specs.Engines.{engine_data}
-use Rattle.run_base.specs.declared.fault.Fault.{Fault}
-use Rattle.run_base.specs.declared.fault.Fault.TheVariants as fault
 use Rattle.rt_report.specs.declared.lines.Lines.{Lines}
 use Rattle.run_rows.specs.declared.row.RowEnd.{RowEnd}
 use Rattle.run_rows.specs.declared.telling.Telling.{Telling}
@@ -89,10 +87,10 @@ module _ (telling : Telling) (t : Option Tables) (held : Contents) where
 -- what it changed, and the lines on that, are its outcome
 pub accepted_taken : (telling : Telling) (number : ℕ) (row : ListRow) (bytes : List ℕ) (engine later : Engine) (d : Delta) (lines : Lines) →
     ((t : Option Tables) (h : List Snapshot) → Stands t engine h → Stands t later (with h (taken row bytes))) →
-    ((t : Option Tables) (h : List Snapshot) → Stands t engine h → IsDelta t h (taken row bytes) (engine_data later).list d) →
+    ((t : Option Tables) (h : List Snapshot) → Matches (engine_data engine) t h → IsDelta t h (taken row bytes) (engine_data later).list d) →
     AreTold telling number row d lines → Takes telling number row (Ok bytes) engine (record { engine = later; lines = lines })
 accepted_taken telling number row bytes engine later d lines stands changes told t h st =
-    let is = delta_is_computed t h (taken row bytes) (engine_data later).list d (stands t h st).list_is (changes t h st) in
+    let is = delta_is_computed t h (taken row bytes) (engine_data later).list d (listed (engine_data later) t (with h (taken row bytes)) (stands t h st)) (changes t h st.matches) in
     record {
       stands_for = stands t h st;
       text_is = told.text_is ∙ ap (λ x. accepted_text number row x ++ told_text telling x) is;

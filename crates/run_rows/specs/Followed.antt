@@ -1,11 +1,10 @@
 -- What the code holds while it follows rows: the invariants of its loop, of which the report in `Rows.antt` doesn't speak.
-use Rattle.std.specs.Prelude.{◌≡◌, ℕ, ◌+◌, ◌<◌, Bool, List, ◌++◌, length, Option, Some, IfSome, Result, Ok, Err, slice_get}
+use Rattle.std.specs.Prelude.{◌≡◌, ℕ, ◌+◌, ◌<◌, Bool, List, ◌++◌, length, Option, Some, IfSome, Result, slice_get}
 use Rattle.std.specs.FinMap.{get}
 use Rattle.std.specs.Io.KnownBytes.{append_known}
 use Rattle.rt_outside.specs.Store.{Contents}
 use Rattle.feed_codec.specs.declared.refusal.Refusal.{Refusal}
 use Rattle.feed_list.specs.declared.row.ListRow.{ListRow}
-use Rattle.feed_stream.specs.declared.kept.Kept.{Kept}
 use Rattle.timetable.specs.Timetables.{Tables}
 use Rattle.rule_history.specs.History.{Snapshot}
 use Rattle.engine_laws.specs.Delta.{Delta}

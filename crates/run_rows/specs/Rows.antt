@@ -38,6 +38,7 @@ accepted_text number row d = line_of (accepted (record {
   tested = d.tested;
   paired = d.paired;
   bounded = d.bounded;
+  peaked = d.peaked;
 }))
 
 abbrev pub told_text : Telling → Delta → List ℕ

@@ -47,6 +47,7 @@ fn told(
         tested: delta.tested,
         paired: delta.paired,
         bounded: delta.bounded,
+        peaked: delta.peaked,
     };
     let text = accepted_line(alloc, &it)?;
     let mut lines = Lines { text, error: false };

@@ -5,13 +5,13 @@ use Rattle.feed_values.specs.Snapshot.{entities_of}
 use Rattle.run_base.specs.Counted.{Work, counters, no_work}
 use Rattle.run_base.specs.Found.{bytes_in}
 
--- for entities that are new: each is decoded, and 45 rules are tested there
+-- for entities that are new: each is decoded, and 46 rules are tested there
 abbrev pub entities_work : ℕ → Work
-entities_work n = counters n (45 * n)
+entities_work n = counters n (46 * n)
 
 -- for a snapshot that comes first, with so many entities: ten rules are tested on its header besides
 abbrev pub first_work : ℕ → Work
-first_work n = counters n (10 + 45 * n)
+first_work n = counters n (10 + 46 * n)
 
 -- for a snapshot that was accepted, and for one that was refused
 abbrev pub found_work : Result (List ℕ) Refusal → Work

@@ -22,6 +22,7 @@ accepted_text moment entities = line_of (accepted (record {
   tested = entities;
   paired = entities;
   bounded = entities;
+  peaked = entities;
 }))
 
 -- an accepted snapshot with so many entities is a line, and then its findings

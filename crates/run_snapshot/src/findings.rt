@@ -9,8 +9,8 @@ ghost use Rattle.feed_values.specs.Views.{entity_value, feed_header_value};
 ghost use Rattle.timetable.specs.Timetables.{Tables};
 ghost use Rattle.rule_history.specs.Answered.{tables_of};
 ghost use Rattle.rule_table.specs.Marked.{marked};
-ghost use Rattle.rule_table.specs.Pairs.{PairRow};
-ghost use Rattle.judging.specs.Whole.{entity_found, header_found};
+ghost use Rattle.rule_table.specs.Answers.{Gathered};
+ghost use Rattle.judging.specs.Whole.{entity_found, header_found, rows_alone};
 ghost use Rattle.judging.specs.Judged.{first_answer, first_heads, found_at_seats, snapshot_found};
 ghost use Rattle.snapshot_keys.specs.Places.{AreWithin, entity_at, placed};
 ghost use Rattle.rt_report.specs.FindingLines.{AddsLines, finding_text, has_error};
@@ -22,7 +22,7 @@ use crate::sending::send;
 use feed_codec::{decode_entity, decode_header};
 use feed_stream::Kept;
 use feed_values::{Entity, FeedHeader};
-use judging::{AllRules, finding_at, marks_at};
+use judging::{HeaderRules, finding_at, marks_at};
 use rt_outside::{Sink, Steps, put_all};
 use rt_report::Lines;
 use rule_table::{EntityKey, Mark, PairView};
@@ -36,17 +36,17 @@ use timetable::Timetable;
 /// Appends the findings on the header of feed 0.
 fn judge_header<L: Ledger>(
     alloc: Global,
-    rules: &AllRules,
+    rules: &HeaderRules,
     header: &FeedHeader,
     moment: u64,
     lines: &mut Lines,
     tests: &mut Steps<L>,
 ) -> Result<(), AllocError>
-    ensures added { OnOk result ((t : Option Tables) (rows : List PairRow) → AddsLines lines.old lines.new (header_found t rows (first_heads (feed_header_value header.now) moment) 0)) }
+    ensures added { OnOk result ((t : Option Tables) (u : Gathered) → AddsLines lines.old lines.new (header_found t u (first_heads (feed_header_value header.now) moment) 0)) }
     ensures ticked { OnOk result (tests.new ≡ tests.old + 10) }
     ensures most { tests.new ≤ tests.old + 10 }
 {
-    let found = rules.judge_header(alloc, 0, header, None, false, moment, tests)?;
+    let found = rules.judge(alloc, 0, header, None, false, moment, tests)?;
     lines.push(alloc, found.as_slice())
 }
 
@@ -95,9 +95,9 @@ fn send_entity<P: PairView, S: Sink, D: Ledger, T: Ledger>(
 ) -> Result<(), Fault>
     requires { place < length (entity_payloads kept.now) }
     ensures sent { OnOk result (Sends (S.state out.old).written (S.state out.new).written lines.old lines.new
-        (entity_found (tables_of timetable.now) (P.rows view.now) (first_heads (feed_header_value header.now) moment) key.now (entity_at kept.now place))) }
+        (entity_found (tables_of timetable.now) (rows_alone (P.rows view.now)) (first_heads (feed_header_value header.now) moment) key.now (entity_at kept.now place))) }
     ensures part { OnErr result (SendsPart (S.state out.old).written (S.state out.new).written lines.old
-        (entity_found (tables_of timetable.now) (P.rows view.now) (first_heads (feed_header_value header.now) moment) key.now (entity_at kept.now place))) }
+        (entity_found (tables_of timetable.now) (rows_alone (P.rows view.now)) (first_heads (feed_header_value header.now) moment) key.now (entity_at kept.now place))) }
     ensures not_read { IsErrOf result Fault.Read → ⊥ }
     ensures later { (S.state out.old).faults ≤ (S.state out.new).faults }
     ensures write { IsErrOf result Fault.Write → Rose (S.state out.old).faults (S.state out.new).faults }
@@ -165,7 +165,7 @@ fn send_snapshot<S: Sink, D: Ledger, T: Ledger>(
     ensures counted { OnOk result (RoseBy (first_work (length (entities_of kept.now))) (counters decodes.old tests.old) (counters decodes.new tests.new)) }
     ensures most { RoseAtMost (first_work (length (entities_of kept.now))) (counters decodes.old tests.old) (counters decodes.new tests.new) }
 {
-    let rules = AllRules::new();
+    let rules = HeaderRules::new();
     let header = decode_header(alloc, kept.header_parts())?;
     let places = places(alloc, 0, kept)?;
     let rows = rows_of(alloc, kept, &places)?;

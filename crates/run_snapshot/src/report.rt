@@ -73,6 +73,7 @@ fn put_accepted<S: Sink, D: Ledger, T: Ledger>(
         tested: count,
         paired: count,
         bounded: count,
+        peaked: count,
     };
     let line = accepted_line(alloc, &it)?;
     let error = put_findings(alloc, timetable, moment, kept, line, out, decodes, tests)?;

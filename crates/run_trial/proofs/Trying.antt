@@ -21,7 +21,7 @@ use Rattle.trial_feed.specs.Moving.{Moving, advanced, begun}
 use Rattle.trial_feed.specs.Snapshots.{all_snapshots, first_snapshot, no_snapshots, snapshot_of, snapshots_from, trial_snapshots}
 use Rattle.run_trial.specs.declared.sums.Sums.{Sums}
 use Rattle.run_trial.specs.declared.summing.TrialEnd.{TrialEnd}
-use Rattle.engine_laws.specs.Standings.{StandsFor}
+use Rattle.engine_laws.specs.Standings.{Matches, StandsFor, listed}
 use Rattle.timetable.specs.Lookups.{is_present, tables_in}
 use Rattle.timetable.specs.declared.timetable.Timetable.{Timetable}
 use Rattle.run_timetable.specs.Timetables.{refusal_text, tables_had}
@@ -41,19 +41,20 @@ deltas_more t before (x ∷ xs) s =
     ap (λ ds. delta_after t before x ∷ ds) (deltas_more t (with before x) xs s)
     ∙ ap (λ h. delta_after t before x ∷ (deltas t (with before x) xs ++ delta_after t h s ∷ [])) (append_assoc before (x ∷ []) xs)
 
-same_sums : (a b : Sums) → a.snapshots ≡ b.snapshots → a.opened ≡ b.opened → a.closed ≡ b.closed → a.tested ≡ b.tested → a.paired ≡ b.paired → a.bounded ≡ b.bounded → a ≡ b
-same_sums a b p q r s t u =
-    ap (λ n. let x : Sums = record { snapshots = n; opened = a.opened; closed = a.closed; tested = a.tested; paired = a.paired; bounded = a.bounded } in x) p
-    ∙ ap (λ n. let x : Sums = record { snapshots = b.snapshots; opened = n; closed = a.closed; tested = a.tested; paired = a.paired; bounded = a.bounded } in x) q
-    ∙ ap (λ n. let x : Sums = record { snapshots = b.snapshots; opened = b.opened; closed = n; tested = a.tested; paired = a.paired; bounded = a.bounded } in x) r
-    ∙ ap (λ n. let x : Sums = record { snapshots = b.snapshots; opened = b.opened; closed = b.closed; tested = n; paired = a.paired; bounded = a.bounded } in x) s
-    ∙ ap (λ n. let x : Sums = record { snapshots = b.snapshots; opened = b.opened; closed = b.closed; tested = b.tested; paired = n; bounded = a.bounded } in x) t
-    ∙ ap (λ n. let x : Sums = record { snapshots = b.snapshots; opened = b.opened; closed = b.closed; tested = b.tested; paired = b.paired; bounded = n } in x) u
+same_sums : (a b : Sums) → a.snapshots ≡ b.snapshots → a.opened ≡ b.opened → a.closed ≡ b.closed → a.tested ≡ b.tested → a.paired ≡ b.paired → a.bounded ≡ b.bounded → a.peaked ≡ b.peaked → a ≡ b
+same_sums a b p q r s t u v =
+    ap (λ n. let x : Sums = record { snapshots = n; opened = a.opened; closed = a.closed; tested = a.tested; paired = a.paired; bounded = a.bounded; peaked = a.peaked } in x) p
+    ∙ ap (λ n. let x : Sums = record { snapshots = b.snapshots; opened = n; closed = a.closed; tested = a.tested; paired = a.paired; bounded = a.bounded; peaked = a.peaked } in x) q
+    ∙ ap (λ n. let x : Sums = record { snapshots = b.snapshots; opened = b.opened; closed = n; tested = a.tested; paired = a.paired; bounded = a.bounded; peaked = a.peaked } in x) r
+    ∙ ap (λ n. let x : Sums = record { snapshots = b.snapshots; opened = b.opened; closed = b.closed; tested = n; paired = a.paired; bounded = a.bounded; peaked = a.peaked } in x) s
+    ∙ ap (λ n. let x : Sums = record { snapshots = b.snapshots; opened = b.opened; closed = b.closed; tested = b.tested; paired = n; bounded = a.bounded; peaked = a.peaked } in x) t
+    ∙ ap (λ n. let x : Sums = record { snapshots = b.snapshots; opened = b.opened; closed = b.closed; tested = b.tested; paired = b.paired; bounded = n; peaked = a.peaked } in x) u
+    ∙ ap (λ n. let x : Sums = record { snapshots = b.snapshots; opened = b.opened; closed = b.closed; tested = b.tested; paired = b.paired; bounded = b.bounded; peaked = n } in x) v
 
 sums_added : (ds : List Delta) (d : Delta) → added (sums_over ds) d ≡ sums_over (ds ++ d ∷ [])
 sums_added ds d = same_sums (added (sums_over ds) d) (sums_over (ds ++ d ∷ [])) (sym (length-append ds (d ∷ [])))
     (sym (sum_by_push (λ x. length x.opened) ds d)) (sym (sum_by_push (λ x. length x.closed) ds d)) (sym (sum_by_push (λ x. x.tested) ds d))
-    (sym (sum_by_push (λ x. x.paired) ds d)) (sym (sum_by_push (λ x. x.bounded) ds d))
+    (sym (sum_by_push (λ x. x.paired) ds d)) (sym (sum_by_push (λ x. x.bounded) ds d)) (sym (sum_by_push (λ x. x.peaked) ds d))
 
 sums_more : (t : Option Tables) (h : List Snapshot) (s : Snapshot) → added (sums_of t h) (delta_after t h s) ≡ sums_of t (with h s)
 sums_more t h s = sums_added (deltas t [] h) (delta_after t h s) ∙ ap sums_over (sym (deltas_more t [] h s))
@@ -67,11 +68,11 @@ same_snapshot number feed moment bytes p q =
 
 pub summed_next : (t : Option Tables) (h : List Snapshot) (s : Snapshot) (before after : TrialEnd) (d : Delta) → IsSummedUp t h before →
     ((t : Option Tables) (h : List Snapshot) → StandsFor (engine_data before.engine) t h → StandsFor (engine_data after.engine) t (with h s)) →
-    ((t : Option Tables) (h : List Snapshot) → StandsFor (engine_data before.engine) t h → IsDelta t h s (engine_data after.engine).list d) →
+    ((t : Option Tables) (h : List Snapshot) → Matches (engine_data before.engine) t h → IsDelta t h s (engine_data after.engine).list d) →
     after.sums ≡ added before.sums d → IsSummedUp t (with h s) after
 summed_next t h s before after d is stands changes sums =
     let stands_for = stands t h is.stands_for in
-    let delta = delta_is_computed t h s (engine_data after.engine).list d stands_for.list_is (changes t h is.stands_for) in
+    let delta = delta_is_computed t h s (engine_data after.engine).list d (listed (engine_data after.engine) t (with h s) stands_for) (changes t h is.stands_for.matches) in
     record {
       stands_for = stands_for;
       sums_are = sums ∙ ap (added before.sums) delta ∙ ap (λ x. added x (delta_after t h s)) is.sums_are ∙ sums_more t h s;
@@ -155,7 +156,7 @@ pub summed_text : (t : Option Tables) (h : List Snapshot) (end : TrialEnd) (r : 
     IfOk r (λ text. text.items ≡ summary_text (engine_data end.engine).list end.sums) → IfOk r (λ text. text.items ≡ history_text t h)
 summed_text t h end (Ok text) is e =
     e
-    ∙ ap (λ list. summary_text list end.sums) (list_is_computed.is_only t h (engine_data end.engine).list is.stands_for.list_is)
+    ∙ ap (λ list. summary_text list end.sums) (list_is_computed.is_only t h (engine_data end.engine).list (listed (engine_data end.engine) t h is.stands_for))
     ∙ ap (summary_text (standings t h)) is.sums_are
 summed_text t h end (Err e) is _ = tt
 

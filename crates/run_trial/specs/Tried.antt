@@ -36,6 +36,7 @@ sums_over ds = record {
   tested = sum_by (λ d. d.tested) ds;
   paired = sum_by (λ d. d.paired) ds;
   bounded = sum_by (λ d. d.bounded) ds;
+  peaked = sum_by (λ d. d.peaked) ds;
 }
 
 -- those over a history
@@ -53,6 +54,7 @@ summary_text list sums = line_of (trial (record {
   tested = sums.tested;
   paired = sums.paired;
   bounded = sums.bounded;
+  peaked = sums.peaked;
 }))
 
 abbrev pub history_text : Option Tables → List Snapshot → List ℕ
@@ -87,6 +89,7 @@ added sums d = record {
   tested = sums.tested + d.tested;
   paired = sums.paired + d.paired;
   bounded = sums.bounded + d.bounded;
+  peaked = sums.peaked + d.peaked;
 }
 
 -- the snapshot of this number, which has these bytes

@@ -77,6 +77,7 @@ impl TrialEnd {
                 tested: sums.tested,
                 paired: sums.paired,
                 bounded: sums.bounded,
+                peaked: sums.peaked,
             },
         )
     }

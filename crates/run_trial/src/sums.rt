@@ -7,7 +7,7 @@ use follow_engine::Delta;
 use std::alloc::AllocError;
 
 /// Sums over the snapshots that were taken: how many they are, what they opened and closed, and how many entities were judged
-/// anew, by the three counts of a snapshot.
+/// anew, by the four counts of a snapshot.
 #[derive(Clone, Copy, Debug)]
 pub struct Sums {
     pub snapshots: u64,
@@ -16,6 +16,7 @@ pub struct Sums {
     pub tested: u64,
     pub paired: u64,
     pub bounded: u64,
+    pub peaked: u64,
 }
 
 impl Sums {
@@ -30,6 +31,7 @@ impl Sums {
             tested: 0,
             paired: 0,
             bounded: 0,
+            peaked: 0,
         }
     }
 
@@ -44,6 +46,7 @@ impl Sums {
             tested: sum(self.tested, delta.tested)?,
             paired: sum(self.paired, delta.paired)?,
             bounded: sum(self.bounded, delta.bounded)?,
+            peaked: sum(self.peaked, delta.peaked)?,
         })
     }
 }

@@ -27,9 +27,10 @@ accepted it = object
     (member (codes "line") (string (codes "accepted"))
     (member (codes "moment") (count it.moment)
     (member (codes "paired") (count it.paired)
+    (member (codes "peaked") (count it.peaked)
     (member (codes "row") (count it.row)
     (member (codes "snapshot") (count it.snapshot)
-    (member (codes "tested") (count it.tested) no_members)))))))))
+    (member (codes "tested") (count it.tested) no_members))))))))))
 
 -- a reason by its name
 abbrev pub reason_name : Reason → List ℕ
@@ -72,5 +73,6 @@ trial sums = object
     (member (codes "line") (string (codes "trial"))
     (member (codes "opened") (count sums.opened)
     (member (codes "paired") (count sums.paired)
+    (member (codes "peaked") (count sums.peaked)
     (member (codes "snapshots") (count sums.snapshots)
-    (member (codes "tested") (count sums.tested) no_members))))))))
+    (member (codes "tested") (count sums.tested) no_members)))))))))

@@ -28,6 +28,8 @@ pub struct Accepted {
     pub paired: u64,
     /// Those, and those whose bounds changed.
     pub bounded: u64,
+    /// Those, and those whose vehicle's peak changed.
+    pub peaked: u64,
 }
 
 fn accepted_value(alloc: Global, it: &Accepted) -> Result<Value, AllocError>
@@ -40,6 +42,7 @@ fn accepted_value(alloc: Global, it: &Accepted) -> Result<Value, AllocError>
         "line": "accepted",
         "moment": it.moment,
         "paired": it.paired,
+        "peaked": it.peaked,
         "row": it.row,
         "snapshot": it.snapshot,
         "tested": it.tested,

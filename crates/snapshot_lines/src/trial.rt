@@ -24,6 +24,8 @@ pub struct TrialSums {
     pub paired: u64,
     /// How many by their bounds.
     pub bounded: u64,
+    /// How many by their vehicles' peaks.
+    pub peaked: u64,
 }
 
 fn trial_value(alloc: Global, sums: &TrialSums) -> Result<Value, AllocError>
@@ -36,6 +38,7 @@ fn trial_value(alloc: Global, sums: &TrialSums) -> Result<Value, AllocError>
         "line": "trial",
         "opened": sums.opened,
         "paired": sums.paired,
+        "peaked": sums.peaked,
         "snapshots": sums.snapshots,
         "tested": sums.tested,
     })

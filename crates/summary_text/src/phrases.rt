@@ -172,4 +172,10 @@ pub const PHRASES: &[Phrase] = &[
         missing: "that is its occurrence (none)",
         other: "that is its occurrence {v}",
     },
+    Phrase {
+        ask: "peak",
+        one: "the latest time that vehicle {1} gave before in feed {0} is {v}",
+        missing: "vehicle {1} gave no time before in feed {0}",
+        other: "the latest time that vehicle {1} gave before in feed {0} is {v}",
+    },
 ];

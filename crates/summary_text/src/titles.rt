@@ -350,6 +350,12 @@ const TEXTS: &[RuleTexts] = &[
         at_entity: "Readers guess SCHEDULED. Say so.",
     },
     RuleTexts {
+        rule: RuleId::X001,
+        title: "A vehicle's timestamp is below an earlier one",
+        on_header: "",
+        at_entity: "The bus jumps back on the map to where it was before. Let one producer write a vehicle, send no old position again, and set the vehicle's clock.",
+    },
+    RuleTexts {
         rule: RuleId::X002,
         title: "Two entities have one id",
         on_header: "",

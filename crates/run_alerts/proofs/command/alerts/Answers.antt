@@ -27,7 +27,7 @@ returns-in-Ok-clause-carried g c =
     (outside (g.F.Files.state c.take_files.new.files) (g.S.Sink.state c.end_with_alerts.new.out) (g.E.Sink.state c.end_with_alerts.new.err)) c.end_with_alerts.result)
     (absent_tables c.absent-table.result c.absent-table.ensures.present)
     (told_ended (alerts_after moment query) t moment names _ _ (g.S.Sink.state c.take_files.new.out) engine c.in-Ok.end.error (alerts_ending moment query (entities_held engine.feeds)) c.end_with_alerts.result
-    c.in-Ok.ensures.whole c.take_files.ensures.later (λ h stands. ap (alerts_ending moment query) (c.end_with_alerts.ensures.after t h stands)) (g.E.Sink.state c.take_files.new.err) c.in-Ok.ensures.silent
+    c.in-Ok.ensures.whole c.take_files.ensures.later (λ h stands. ap (alerts_ending moment query) (c.end_with_alerts.ensures.after t h stands.matches)) (g.E.Sink.state c.take_files.new.err) c.in-Ok.ensures.silent
     c.end_with_alerts.ensures.ends)
 
 -- a fault was told before

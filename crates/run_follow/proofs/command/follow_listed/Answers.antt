@@ -6,7 +6,6 @@ use Rattle.run_rows.specs.declared.telling.Telling.TheVariants.{Changes}
 use Rattle.run_rows.specs.Rows.{paths_of, all_rows}
 use Rattle.run_follow.specs.Follow.{followed}
 use Rattle.run_base.proofs.Carried.{carried_fault}
-use Rattle.run_base.specs.Counted.{counters}
 use Rattle.run_base.proofs.Chosen.{carried_done}
 use Rattle.run_base.proofs.Counted.{counted_whole, counted_part, fault_ends}
 use Rattle.run_rows.specs.Counted.{outcome_work}

@@ -4,7 +4,7 @@ use Rattle.std.proofs.lemmas.Map.Iter.{rest_more}
 use Rattle.feed_values.specs.Views.{feed_header_value}
 use Rattle.rule_history.specs.Answered.{Heads, tables_of}
 use Rattle.rule_table.specs.Found.{Found}
-use Rattle.judging.specs.Whole.{entity_found}
+use Rattle.judging.specs.Whole.{entity_found, rows_alone}
 use Rattle.judging.specs.Judged.{first_heads, found_at_seats}
 use Rattle.snapshot_keys.specs.Places.{AreWithin, entity_at, placed}
 use Rattle.run_snapshot.proofs.Sent.{Left, left_all, left_next, left_cut, at_err}
@@ -22,7 +22,7 @@ loop-key-init g c =
           (sym c.into_iter-key-iterator.ensures.into_iter_gives.0) (left_all before c.args.lines.now all);
       within = subst (AreWithin c.args.kept.now) (sym c.into_iter-key-iterator.ensures.into_iter_gives.0) c.requires;
       decoded = ap (λ it. c.args.decodes.now + length it) c.into_iter-key-iterator.ensures.into_iter_gives.0;
-      tested = ap (λ it. c.args.tests.now + 45 * length it) c.into_iter-key-iterator.ensures.into_iter_gives.0;
+      tested = ap (λ it. c.args.tests.now + 46 * length it) c.into_iter-key-iterator.ensures.into_iter_gives.0;
       later = omega arith;
     }
 
@@ -33,7 +33,7 @@ returns-in_err-send_entity-clause-part g c =
     let rows = g.P.PairView.rows c.args.view.now in
     let heads : Heads = first_heads (feed_header_value c.args.header.now) c.args.moment in
     let all : List Found = found_at_seats t rows heads (placed c.args.kept.now c.args.places.now.entries) in
-    let xs : List Found = entity_found t rows heads c.in-Some.key.now (entity_at c.args.kept.now c.in-Some.place.now) in
+    let xs : List Found = entity_found t (rows_alone rows) heads c.in-Some.key.now (entity_at c.args.kept.now c.in-Some.place.now) in
     let ys : List Found = found_at_seats t rows heads (placed c.args.kept.now c.next.new.self) in
     let before = (g.S.Sink.state c.args.out.now).written in
     let mid = (g.S.Sink.state c.loop-key.out).written in
@@ -51,7 +51,7 @@ loop-key-preserved g c =
     let rows = g.P.PairView.rows c.args.view.now in
     let heads : Heads = first_heads (feed_header_value c.args.header.now) c.args.moment in
     let all : List Found = found_at_seats t rows heads (placed c.args.kept.now c.args.places.now.entries) in
-    let xs : List Found = entity_found t rows heads c.in-Some.key.now (entity_at c.args.kept.now c.in-Some.place.now) in
+    let xs : List Found = entity_found t (rows_alone rows) heads c.in-Some.key.now (entity_at c.args.kept.now c.in-Some.place.now) in
     let ys : List Found = found_at_seats t rows heads (placed c.args.kept.now c.next.new.self) in
     let before = (g.S.Sink.state c.args.out.now).written in
     let mid = (g.S.Sink.state c.loop-key.out).written in

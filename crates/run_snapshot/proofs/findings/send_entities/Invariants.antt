@@ -18,6 +18,6 @@ invariant-loop-key g l =
           (g.S.Sink.state l.out).written l.lines (found_at_seats t rows heads (placed l.kept l.key-iterator));
       within : AreWithin l.kept l.key-iterator;
       decoded : l.decodes + length l.key-iterator ≡ l.fn.decodes + length l.places.entries;
-      tested : l.tests + 45 * length l.key-iterator ≡ l.fn.tests + 45 * length l.places.entries;
+      tested : l.tests + 46 * length l.key-iterator ≡ l.fn.tests + 46 * length l.places.entries;
       later : (g.S.Sink.state l.fn.out).faults ≤ (g.S.Sink.state l.out).faults;
     }

@@ -6,7 +6,7 @@ use Rattle.rule_table.specs.Found.{Found}
 use Rattle.rule_table.specs.Marked.{marked}
 use Rattle.judging.specs.Judged.{first_answer, first_heads}
 use Rattle.judging.specs.Ruled.{entity_count}
-use Rattle.judging.specs.Whole.{entity_found}
+use Rattle.judging.specs.Whole.{entity_found, rows_alone}
 use Rattle.snapshot_keys.specs.Places.{entity_at}
 use Rattle.snapshot_keys.proofs.OneMore.{read_payload}
 use Rattle.run_snapshot.specs.Sending.{Sends, SendsPart}
@@ -19,7 +19,7 @@ returns-in_err-entity-clause-part g c =
     let t = tables_of c.args.timetable.now in
     let rows = g.P.PairView.rows c.args.view.now in
     let heads : Heads = first_heads (feed_header_value c.args.header.now) c.args.moment in
-    let found : List Found = entity_found t rows heads c.args.key.now (entity_at c.args.kept.now c.args.place) in
+    let found : List Found = entity_found t (rows_alone rows) heads c.args.key.now (entity_at c.args.kept.now c.args.place) in
     let before = (g.S.Sink.state c.args.out.now).written in
     at_err c.from_residual.result (left_part before c.args.lines.now found before c.args.lines.now found (left_all before c.args.lines.now found))
 
@@ -29,7 +29,7 @@ returns-in_err-marks-clause-part g c =
     let t = tables_of c.args.timetable.now in
     let rows = g.P.PairView.rows c.args.view.now in
     let heads : Heads = first_heads (feed_header_value c.args.header.now) c.args.moment in
-    let found : List Found = entity_found t rows heads c.args.key.now (entity_at c.args.kept.now c.args.place) in
+    let found : List Found = entity_found t (rows_alone rows) heads c.args.key.now (entity_at c.args.kept.now c.args.place) in
     let before = (g.S.Sink.state c.args.out.now).written in
     at_err c.from_residual-in_err-marks.result (left_part before c.args.lines.now found before c.args.lines.now found (left_all before c.args.lines.now found))
 
@@ -44,7 +44,7 @@ returns-clause-sent g c =
     let answer = first_answer t rows (feed_header_value c.args.header.now) c.args.moment c.args.key.now (entity_value c.in_ok-entity.entity) in
     let said : entity_value c.in_ok-entity.entity ≡ entity_at c.args.kept.now c.args.place =
     c.in_ok-entity.ensures.value ∙ ap entity_of (sym (read_payload (entity_payloads c.args.kept.now) c.args.place c.entity.result.now c.entity.ensures.payload)) in
-    let same = ap (marked answer c.args.key.now) c.deref.ensures.value ∙ c.in_ok-marks.ensures.marked ∙ ap (entity_found t rows heads c.args.key.now) said in
+    let same = ap (marked answer c.args.key.now) c.deref.ensures.value ∙ c.in_ok-marks.ensures.marked ∙ ap (entity_found t (rows_alone rows) heads c.args.key.now) said in
     more_ok c.send_marked.result (subst (Sends before now c.args.lines.now c.send_marked.new.lines) same) c.send_marked.ensures.sent
 
 pub returns-clause-part : goal.returns-clause-part
@@ -57,7 +57,7 @@ returns-clause-part g c =
     let answer = first_answer t rows (feed_header_value c.args.header.now) c.args.moment c.args.key.now (entity_value c.in_ok-entity.entity) in
     let said : entity_value c.in_ok-entity.entity ≡ entity_at c.args.kept.now c.args.place =
     c.in_ok-entity.ensures.value ∙ ap entity_of (sym (read_payload (entity_payloads c.args.kept.now) c.args.place c.entity.result.now c.entity.ensures.payload)) in
-    let same = ap (marked answer c.args.key.now) c.deref.ensures.value ∙ c.in_ok-marks.ensures.marked ∙ ap (entity_found t rows heads c.args.key.now) said in
+    let same = ap (marked answer c.args.key.now) c.deref.ensures.value ∙ c.in_ok-marks.ensures.marked ∙ ap (entity_found t (rows_alone rows) heads c.args.key.now) said in
     more_err c.send_marked.result (subst (SendsPart before now c.args.lines.now) same) c.send_marked.ensures.part
 
 -- ---- an entity is decoded, and its rules are tested

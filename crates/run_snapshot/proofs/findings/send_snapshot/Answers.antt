@@ -3,7 +3,7 @@ use Rattle.feed_values.specs.Snapshot.{entities_of, header_of}
 use Rattle.feed_values.specs.Views.{feed_header_value}
 use Rattle.rule_history.specs.Answered.{Heads, tables_of}
 use Rattle.judging.specs.Seats.{Rising, seats}
-use Rattle.judging.specs.Whole.{header_found}
+use Rattle.judging.specs.Whole.{header_found, rows_alone}
 use Rattle.judging.specs.Judged.{first_heads, seat_rows, found_at_seats, snapshot_found}
 use Rattle.judging.proofs.OneSnapshot.{seats_rise}
 use Rattle.rt_report.specs.FindingLines.{AddsLines}
@@ -25,8 +25,8 @@ returns-clause-sent g c =
     let before = (g.S.Sink.state c.args.out.now).written in
     let new = (g.S.Sink.state c.send_entities.new.out).written in
     more_ok c.send_entities.result
-    (λ sent. sends_behind before new c.args.lines.now c.judge_header.new.lines (header_found t (seat_rows es) heads 0) (found_at_seats t (seat_rows es) heads es)
-    (subst (λ h. AddsLines c.args.lines.now c.judge_header.new.lines (header_found t (seat_rows es) (first_heads h c.args.moment) 0)) said (c.in_ok-judge_header.ensures.added t (seat_rows es))) c.send_entities.new.lines
+    (λ sent. sends_behind before new c.args.lines.now c.judge_header.new.lines (header_found t (rows_alone (seat_rows es)) heads 0) (found_at_seats t (seat_rows es) heads es)
+    (subst (λ h. AddsLines c.args.lines.now c.judge_header.new.lines (header_found t (rows_alone (seat_rows es)) (first_heads h c.args.moment) 0)) said (c.in_ok-judge_header.ensures.added t (rows_alone (seat_rows es)))) c.send_entities.new.lines
     (subst (Sends before new c.judge_header.new.lines c.send_entities.new.lines)
     (c.in_ok-rows.ensures.found t (first_heads (feed_header_value c.in_ok-header.header) c.args.moment)
     ∙ ap (λ s. found_at_seats t (seat_rows s) (first_heads (feed_header_value c.in_ok-header.header) c.args.moment) s) c.in_ok-places.ensures.seats_are
@@ -42,8 +42,8 @@ returns-clause-part g c =
     let before = (g.S.Sink.state c.args.out.now).written in
     let new = (g.S.Sink.state c.send_entities.new.out).written in
     more_err c.send_entities.result
-    (λ part. part_behind before new c.args.lines.now c.judge_header.new.lines (header_found t (seat_rows es) heads 0) (found_at_seats t (seat_rows es) heads es)
-    (subst (λ h. AddsLines c.args.lines.now c.judge_header.new.lines (header_found t (seat_rows es) (first_heads h c.args.moment) 0)) said (c.in_ok-judge_header.ensures.added t (seat_rows es)))
+    (λ part. part_behind before new c.args.lines.now c.judge_header.new.lines (header_found t (rows_alone (seat_rows es)) heads 0) (found_at_seats t (seat_rows es) heads es)
+    (subst (λ h. AddsLines c.args.lines.now c.judge_header.new.lines (header_found t (rows_alone (seat_rows es)) (first_heads h c.args.moment) 0)) said (c.in_ok-judge_header.ensures.added t (rows_alone (seat_rows es))))
     (subst (SendsPart before new c.judge_header.new.lines)
     (c.in_ok-rows.ensures.found t (first_heads (feed_header_value c.in_ok-header.header) c.args.moment)
     ∙ ap (λ s. found_at_seats t (seat_rows s) (first_heads (feed_header_value c.in_ok-header.header) c.args.moment) s) c.in_ok-places.ensures.seats_are

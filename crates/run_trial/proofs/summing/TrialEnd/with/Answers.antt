@@ -20,22 +20,22 @@ pub returns-clause-counted : goal.returns-clause-counted
 returns-clause-counted g c = λ t h is.
     subst (λ s. RoseBy (work_of t h s) (counters c.args.decodes.now c.args.tests.now) (counters c.apply.new.decodes c.apply.new.tests))
     (same_snapshot c.args.number c.feed_of.result c.moment_of.result c.args.kept c.feed_of.ensures c.moment_of.ensures)
-    (record { decodes = c.in_ok-engine.ensures.decoded t h is.stands_for; tests = c.in_ok-engine.ensures.judged t h is.stands_for })
+    (record { decodes = c.in_ok-engine.ensures.decoded t h is.stands_for.matches; tests = c.in_ok-engine.ensures.judged t h is.stands_for.matches })
 
 pub returns-in_err-engine-clause-most : goal.returns-in_err-engine-clause-most
 returns-in_err-engine-clause-most g c = λ t h is.
     subst (λ s. RoseAtMost (work_of t h s) (counters c.args.decodes.now c.args.tests.now) (counters c.apply.new.decodes c.apply.new.tests))
     (same_snapshot c.args.number c.feed_of.result c.moment_of.result c.args.kept c.feed_of.ensures c.moment_of.ensures)
-    (record { decodes = c.apply.ensures.most_decoded t h is.stands_for; tests = c.apply.ensures.most_judged t h is.stands_for })
+    (record { decodes = c.apply.ensures.most_decoded t h is.stands_for.matches; tests = c.apply.ensures.most_judged t h is.stands_for.matches })
 
 pub returns-in_err-sums-clause-most : goal.returns-in_err-sums-clause-most
 returns-in_err-sums-clause-most g c = λ t h is.
     subst (λ s. RoseAtMost (work_of t h s) (counters c.args.decodes.now c.args.tests.now) (counters c.apply.new.decodes c.apply.new.tests))
     (same_snapshot c.args.number c.feed_of.result c.moment_of.result c.args.kept c.feed_of.ensures c.moment_of.ensures)
-    (record { decodes = c.apply.ensures.most_decoded t h is.stands_for; tests = c.apply.ensures.most_judged t h is.stands_for })
+    (record { decodes = c.apply.ensures.most_decoded t h is.stands_for.matches; tests = c.apply.ensures.most_judged t h is.stands_for.matches })
 
 pub returns-clause-most : goal.returns-clause-most
 returns-clause-most g c = λ t h is.
     subst (λ s. RoseAtMost (work_of t h s) (counters c.args.decodes.now c.args.tests.now) (counters c.apply.new.decodes c.apply.new.tests))
     (same_snapshot c.args.number c.feed_of.result c.moment_of.result c.args.kept c.feed_of.ensures c.moment_of.ensures)
-    (record { decodes = c.apply.ensures.most_decoded t h is.stands_for; tests = c.apply.ensures.most_judged t h is.stands_for })
+    (record { decodes = c.apply.ensures.most_decoded t h is.stands_for.matches; tests = c.apply.ensures.most_judged t h is.stands_for.matches })
