@@ -65,13 +65,13 @@ fn say_closed(alloc: Global, closed: &[Closed], out: &mut Vec<u8>) -> Result<(),
     Ok(())
 }
 
-/// What a snapshot changed: its number and how many entities it has, how many are tested, paired and bounded, what opened and what
-/// closed.
+/// What a snapshot changed: its number and how many entities it has, how many are tested, paired, bounded and peaked, what opened and
+/// what closed.
 pub fn say_delta(alloc: Global, delta: &Delta, out: &mut Vec<u8>) -> Result<(), AllocError> {
     let entities = format!(in alloc; "{}: {} entities", delta.snapshot, delta.entities)?;
     let counts = format!(in alloc;
-        "{entities}, {} tested, {} paired, {} bounded",
-        delta.tested, delta.paired, delta.bounded
+        "{entities}, {} tested, {} paired, {} bounded, {} peaked",
+        delta.tested, delta.paired, delta.bounded, delta.peaked
     )?;
     say(out, counts.as_str())?;
     say_opened(alloc, delta.opened.as_slice(), out)?;

@@ -7,6 +7,7 @@ use cases::{number, say, word};
 use entity_index::{Changes, EntityIndex, Parts, fresh_are_there};
 use feed_stream::{Kept, Splitter};
 use feed_values::Items;
+use history_rules::Peaks;
 use rt_outside::Steps;
 use rule_table::EntityKey;
 use standing_walks::Standing;
@@ -14,6 +15,7 @@ use std::alloc::{AllocError, Global};
 use std::marker::Brand;
 use std::sync::ledger::{Blank, Ledger};
 use timetable::Timetable;
+use vehicle_peaks::Rises;
 
 /// An index, which is empty as a case begins. It is boxed, so that each way out of a function here drops one box.
 #[derive(Drop)]
@@ -181,6 +183,20 @@ impl IndexAsks {
             return say(out, "none");
         }
         Ok(())
+    }
+
+    /// The vehicles whose peak the snapshot of a feed raises, and the keys of the entities that give one, but for some.
+    pub fn rises(
+        &mut self,
+        peaks: &Peaks,
+        feed: u8,
+        gone: &[EntityKey],
+    ) -> Result<(Rises, Items<EntityKey>), AllocError> {
+        let index = self.index()?;
+        let rises = Rises::of(self.alloc, peaks, &index, feed)?;
+        let keys = rises.keys(self.alloc, &index, feed, gone)?;
+        self.index = Some(index);
+        Ok((rises, keys))
     }
 
     /// Takes `take FEED SINCE` with a snapshot's bytes below, and answers what that changed: the places and keys of what is new or other,

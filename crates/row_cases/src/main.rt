@@ -1,5 +1,5 @@
-//! Asks of the rows and timestamps that are held from snapshot to snapshot, and of the keys that one touches, and of the entities that are held,
-//! whose cases are the texts in data/ that the arguments name.
+//! Asks of the rows, timestamps and peaks that are held from snapshot to snapshot, and of the keys that one touches, and of the entities that are
+//! held, whose cases are the texts in data/ that the arguments name.
 //!
 //! - `entities`: entities by their bytes
 //! - `keys`: keys of entities in text
@@ -7,6 +7,7 @@
 //! - `coming`: what comes into an index of entities
 //! - `indexes`: the asks of such an index
 //! - `numbers`: the asks of the numbers that pairing rows' ids have
+//! - `peaks`: the asks of peaks
 #![tactic(auto)]
 
 mod coming;
@@ -15,10 +16,12 @@ mod held;
 mod indexes;
 mod keys;
 mod numbers;
+mod peaks;
 
 use crate::held::HeldAsks;
 use crate::indexes::IndexAsks;
 use crate::numbers::NumberAsks;
+use crate::peaks::PeakAsks;
 use cases::{Asked, judge, say, word_list};
 use std::alloc::{AllocError, Global};
 use std::{env, fs, io};
@@ -30,6 +33,7 @@ struct RowAsks {
     held: HeldAsks,
     index: IndexAsks,
     numbers: NumberAsks,
+    peaks: PeakAsks,
 }
 
 impl Asked for RowAsks {
@@ -37,6 +41,7 @@ impl Asked for RowAsks {
         self.held.begin();
         self.index.begin();
         self.numbers.begin();
+        self.peaks.begin();
     }
 
     fn answer(&mut self, ask: &str, given: &[u8], answer: &mut Vec<u8>) -> Result<(), AllocError> {
@@ -44,6 +49,7 @@ impl Asked for RowAsks {
         if self.held.answer(&words, given, answer)?
             || self.index.answer(&words, given, answer)?
             || self.numbers.answer(&words, answer)?
+            || self.peaks.answer(&words, &mut self.index, answer)?
         {
             return Ok(());
         }
@@ -57,6 +63,7 @@ fn judged(alloc: Global, name: &str, text: &str) -> Result<String, AllocError> {
         held: HeldAsks::new(alloc),
         index: IndexAsks::new(alloc),
         numbers: NumberAsks::new(alloc),
+        peaks: PeakAsks::new(alloc),
     };
     judge(alloc, name, text, &mut asks)
 }

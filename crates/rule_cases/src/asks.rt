@@ -61,6 +61,7 @@ fn of_messages(words: &[String]) -> Option<AskRef<'_>> {
         "has_vehicle" => Some(AskRef::HasVehicle(kind, id)),
         "first_id" => Some(AskRef::FirstId(feed, id)),
         "first_occurrence" => Some(AskRef::FirstOccurrence(feed, id)),
+        "peak" => Some(AskRef::Peak(feed, id)),
         _ => None,
     }
 }

@@ -15,6 +15,7 @@ fn say_accepted(alloc: Global, words: &[String], out: &mut Vec<u8>) -> Result<()
         tested: number(words, 6),
         paired: number(words, 7),
         bounded: number(words, 8),
+        peaked: number(words, 9),
     };
     let line = accepted_line(alloc, &it)?;
     out.extend_from_slice(&line)
@@ -32,7 +33,7 @@ fn say_refused(
     }
 }
 
-/// Answers `accepted FEED ROW SNAPSHOT MOMENT ENTITIES TESTED PAIRED BOUNDED`, and `refused ROW` with a snapshot's bytes below.
+/// Answers `accepted FEED ROW SNAPSHOT MOMENT ENTITIES TESTED PAIRED BOUNDED PEAKED`, and `refused ROW` with a snapshot's bytes below.
 pub fn answer(
     alloc: Global,
     words: &[String],

@@ -2,7 +2,7 @@
 
 use rule_table::RuleId;
 
-const RULES: [RuleId; 52] = [
+const RULES: [RuleId; 53] = [
     RuleId::E001,
     RuleId::E002,
     RuleId::E003,
@@ -54,6 +54,7 @@ const RULES: [RuleId; 52] = [
     RuleId::W007,
     RuleId::W008,
     RuleId::W009,
+    RuleId::X001,
     RuleId::X002,
 ];
 
