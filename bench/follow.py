@@ -8,7 +8,8 @@ program is crates/rt_command/out/rt_command by default. Each row is the best of 
 how many rules closed at places.
 
 `follow.py PROGRAM each` counts instructions (by callgrind, of valgrind): what it costs that one more snapshot comes of each of two feeds, of whose entities one in a
-hundred has changed, where they have their ids in the same order, and where they come the other way round. It is the difference of two lists.
+hundred has changed, and then of feeds of vehicles that all move, where they have their ids in the same order, and where they come the other way round. It is the
+difference of two lists.
 """
 import os, subprocess, sys, tempfile
 from measuring import best, program
@@ -121,14 +122,15 @@ def instructions(folder):
 
 def each():
     print("%-52s %9s %26s" % ("", "order", "instructions of a pair"))
-    for name, trips, feeds in (("2 x 2000 small entities", 2000, [(2000, small_update), (2000, small_vehicle)]),
-                               ("3000 trips of 20 updates and 900 vehicles", 6000, [(3000, trip_update), (900, vehicle)])):
+    for name, trips, feeds, changing in (("2 x 2000 small entities", 2000, [(2000, small_update), (2000, small_vehicle)], None),
+                                         ("3000 trips of 20 updates and 900 vehicles", 6000, [(3000, trip_update), (900, vehicle)], None),
+                                         ("2 x 1000 vehicles that all move", 2000, [(1000, vehicle), (1000, vehicle)], 1000)):
         with tempfile.TemporaryDirectory() as folder:
             table(folder, trips)
             for order, turned in (("same", False), ("other", True)):
-                in_turn(folder, 4, feeds, None, turned)
+                in_turn(folder, 4, feeds, changing, turned)
                 less = instructions(folder)
-                in_turn(folder, 6, feeds, None, turned)
+                in_turn(folder, 6, feeds, changing, turned)
                 print("%-52s %9s %26d" % (name, order, instructions(folder) - less), flush=True)
 
 

@@ -18,7 +18,7 @@ def text(**keys):
 
 
 def accepted(snapshot):
-    return text(line="accepted", row=snapshot, feed=0, snapshot=snapshot, moment=START + 30 * snapshot, entities=3000, tested=1, paired=1, bounded=1)
+    return text(line="accepted", row=snapshot, feed=0, snapshot=snapshot, moment=START + 30 * snapshot, entities=3000, tested=1, paired=1, bounded=1, peaked=1)
 
 
 def fact(ask, *keys, value):

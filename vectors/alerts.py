@@ -86,7 +86,7 @@ def report(feeds, kind, name, moment):
             first += line(at=0, line="refused", reason="NoFile", row=number)
             continue
         size = len(entities)
-        first += line(bounded=size, entities=size, feed=number, line="accepted", moment=moment, paired=size, row=number, snapshot=taken, tested=size)
+        first += line(bounded=size, entities=size, feed=number, line="accepted", moment=moment, paired=size, peaked=size, row=number, snapshot=taken, tested=size)
         taken += 1
         seen = {}
         for id, of in entities:

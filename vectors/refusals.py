@@ -216,7 +216,7 @@ OUTPUTS = [
     ("an error stream that is closed", "check 2>&-", 4, b""),
     ("no stream but the output", "show header <&- 2>&-", 0, b""),
 ]
-HELD_AT_0 = b'{"bounded":0,"entities":0,"feed":0,"line":"accepted","moment":0,"paired":0,"row":0,"snapshot":0,"tested":0}'
+HELD_AT_0 = b'{"bounded":0,"entities":0,"feed":0,"line":"accepted","moment":0,"paired":0,"peaked":0,"row":0,"snapshot":0,"tested":0}'
 CLOCKS = [("a clock that can't be read", "none"), ("a clock before 1970", "early")]
 
 

@@ -1,11 +1,12 @@
 #!/usr/bin/env python3
-"""Judges snapshots by all 52 rules a second time, in Python, and compares the report of `check` with it, byte for byte.
+"""Judges snapshots by all 53 rules a second time, in Python, and compares the reports of `check` and `follow` with it, byte for byte.
 
     python3 vectors/rules.py [PROGRAM] [COUNT]
 
 PROGRAM is crates/rt_command/out/rt_command by default. COUNT random feeds (300 by default) are made in the JSON form of
 docs/json.md, from a few ids, times and numbers, so that rules break often; `encode` writes their bytes, and `check` judges them,
-with and without the small timetable below. It ends with how many reports were the same and how often each rule was found.
+with and without the small timetable below. A third as many histories of one feed are followed, for the rules that look back and for
+what an accepted line counts. It ends with how many reports were the same and how often each rule was found.
 
 The rules stand here as one reads them in docs/rules.md: a function each, with no table and no code of the program.
 """
@@ -150,8 +151,17 @@ def fact(ask, keys, value): return {"ask": ask, "keys": [str(k) for k in keys], 
 
 
 class Judge:
-    def __init__(self, feed, table, moment):
+    """A snapshot with its timetable, its moment and the snapshots of its feed before it, the oldest first."""
+
+    def __init__(self, feed, table, moment, earlier=()):
         self.header, self.table, self.moment = feed["header"], table, moment
+        self.last = earlier[-1] if earlier else None
+        self.changed = int(bool(earlier) and self.last.get("entity", []) != feed.get("entity", []))
+        self.peaks = {}
+        for e in (e for old in earlier for e in old.get("entity", [])):
+            vehicle, time = cell(e, "vehicle.vehicle.id"), cell(e, "vehicle.timestamp")
+            if vehicle is not None and time is not None:
+                self.peaks[vehicle] = max(time, self.peaks.get(vehicle, 0))
         seen, self.entities = collections.Counter(), []
         for entity in feed.get("entity", []):
             self.entities.append((entity["id"], seen[entity["id"]], entity))
@@ -166,7 +176,7 @@ class Judge:
     # facts of the place that is judged
     def c(self, path, i=None): return fact("cell", [printed(path, self.i if i is None else i)], cell(self.e, path, self.i if i is None else i))
     def head(self, path): return fact("head_now", [path], walk(self.header, [path.split(".")[1]]))
-    def before(self, path): return fact("head_before", [path], None)
+    def before(self, path): return fact("head_before", [path], walk(self.last["header"], [path.split(".")[1]]) if self.last else None)
     def asked(self, name, *keys): return fact(name, keys, getattr(self.table, name)(*keys)) if self.table else None
 
     def ids(self, kind, part): return [r[part] for r in self.rows if r[0] == kind]
@@ -243,7 +253,7 @@ exact = lambda j, p: with_(j, [j.c(beside(p, "trip_id")), j.c(p)], "trip_exact",
 rule("E013", under(D2, "schedule_relationship"), exact, lambda t, p, x: x == 0 and given(p) and p != 2)
 rule("E015", ["U.stop_id", ASSIGNED, "vehicle.stop_id"], kind, lambda p, k: given(k) and k != 0)
 rule("E016", under(D3, "trip_id"), known, lambda t, r, k: k == 1 and r == 1)
-rule("E017", [], None, None, head=head(STAMP, lambda j, p: [j.before(STAMP), j.head(STAMP), fact("entities_changed", [], 0)]), head_test=lambda v: given(v[0], v[1]) and v[0] == v[1] and v[2] == 1)
+rule("E017", [], None, None, head=head(STAMP, lambda j, p: [j.before(STAMP), j.head(STAMP), fact("entities_changed", [], j.changed)]), head_test=lambda v: given(v[0], v[1]) and v[0] == v[1] and v[2] == 1)
 rule("E018", [], None, None, head=head(STAMP, lambda j, p: [j.before(STAMP), j.head(STAMP)]), head_test=lambda v: given(v[0], v[1]) and v[1] < v[0])
 def grid(j, p):
     facts = exact(j, p)
@@ -326,17 +336,61 @@ rule("W007", [], None, None, head=head(STAMP, lambda j, p: [j.before(STAMP), j.h
 rule("W008", [], None, None, head=head(STAMP, lambda j, p: [j.head(STAMP), moment(j)]), head_test=lambda v: given(v[0]) and v[1] > v[0] + 65)
 rule("W009", ["trip_update.trip.schedule_relationship", "U.schedule_relationship", "vehicle.trip.schedule_relationship"],
      lambda j, p: [j.c({"trip_update.trip.schedule_relationship": "trip_update", "U.schedule_relationship": "U"}.get(p, "vehicle.trip")), j.c(p)], lacks)
+def back(j, p):
+    vehicle = j.c("vehicle.vehicle.id")
+    return None if vehicle["value"] is None else [vehicle, j.c(p), fact("peak", [0, vehicle["value"]], j.peaks.get(vehicle["value"]))]
+rule("X001", ["vehicle.timestamp"], back, lambda v, p, k: given(p, k) and p < k)
 rule("X002", ["id"], lambda j, p: [j.c(p), fact("occurrence", [], j.key[1])], lambda p, o: o >= 1)
 JUDGE = [None]
 for r in RULES:
     r["paths"].sort(key=NUMBER.get)
 
 
+def told(**keys): return json.dumps(keys, sort_keys=True, separators=(",", ":"), ensure_ascii=False)
+
+
 def report(feed, table, moment):
     n = len(feed.get("entity", []))
-    first = {"bounded": n, "entities": n, "feed": 0, "line": "accepted", "moment": moment, "paired": n, "row": 0, "snapshot": 0, "tested": n}
     JUDGE[0] = Judge(feed, table, moment)
-    return [json.dumps(first, sort_keys=True, separators=(",", ":"))] + JUDGE[0].judge()
+    return [told(bounded=n, entities=n, feed=0, line="accepted", moment=moment, paired=n, peaked=n, row=0, snapshot=0, tested=n)] + JUDGE[0].judge()
+
+
+# ---- histories of one feed
+def key_of(found): return found.get("id"), found.get("occurrence")
+def place_of(found): return key_of(found) + (found["rule"], found["path"])
+
+
+def touched(old, now, stood, stand):
+    """The four counts: new or other entities, and these with those that pairs, bounds and peaks touch. `old` is none at first."""
+    entities = {(id_, occurrence): e for id_, occurrence, e in now.entities}
+    were = {(id_, occurrence): e for id_, occurrence, e in old.entities} if old else {}
+    tested = {key for key, e in entities.items() if were.get(key) != e}
+    rows, were_rows = set(now.rows), set(old.rows if old else ())
+    other = rows ^ were_rows
+    trips, vehicles = ({row[part] for row in other} - {None} for part in (3, 4))
+    whole = [kind for kind in OTHER if any(row[0] == kind for row in rows) != any(row[0] == kind for row in were_rows)]
+    paired = {row[1:3] for row in rows if row[3] in trips or row[4] in vehicles or OTHER[row[0]] in whole}
+    moved = old is None or (old.header.get("timestamp"), old.moment) != (now.header.get("timestamp"), now.moment)
+    bounded = {key_of(found) for found in stood + stand if found["rule"] in ("E012", "E050")} & set(entities) if moved else set()
+    peaks = {vehicle for vehicle, time in now.peaks.items() if (old.peaks if old else {}).get(vehicle) != time}
+    peaked = {key for key, e in entities.items() if cell(e, "vehicle.vehicle.id") in peaks}
+    return dict(tested=len(tested), paired=len(tested | paired), bounded=len(tested | bounded), peaked=len(tested | peaked))
+
+
+def follow_report(feeds, table, moments):
+    lines, stood, old = [], {}, None
+    for n, moment in enumerate(moments):
+        JUDGE[0] = now = Judge(feeds[n], table, moment, feeds[:n])
+        stand = {place_of(found): found for found in map(json.loads, now.judge())}
+        for place, found in stand.items():
+            found.update(line="opened", since=stood[place]["since"] if place in stood else n)
+        lines.append(told(entities=len(now.entities), feed=0, line="accepted", moment=moment, row=n, snapshot=n, **touched(old, now, list(stood.values()), list(stand.values()))))
+        lines += [told(**found) for place, found in stand.items() if place not in stood or stood[place]["facts"] != found["facts"]]
+        for place, found in stood.items():
+            if place not in stand:
+                lines.append(told(line="closed", **{key: found[key] for key in ("feed", "id", "occurrence", "path", "rule") if key in found}))
+        stood, old = stand, now
+    return lines
 
 
 # ---- random feeds
@@ -390,6 +444,18 @@ def feed(draw):
     return kept(header=header, entity=some(draw, 0.95, lambda: [entity(draw) for _ in range(draw.randrange(1, 8))]))
 
 
+def history(draw):
+    """Snapshots of one feed, each the one before with some entities and perhaps the header drawn anew, and their moments."""
+    feeds, moments = [feed(draw)], [MOMENT]
+    for _ in range(draw.randrange(2, 7)):
+        last = [e if draw.random() < 0.6 else entity(draw) for e in feeds[-1].get("entity", []) if draw.random() < 0.9]
+        last += [entity(draw)] if draw.random() < 0.3 else []
+        header = feeds[-1]["header"] if draw.random() < 0.4 else feed(draw)["header"]
+        feeds.append(kept(header=header, entity=last or None))
+        moments.append(moments[-1] + draw.choice([0, 30, 30, 60]))
+    return feeds, moments
+
+
 def main():
     program = os.path.abspath(sys.argv[1] if len(sys.argv) > 1 else os.path.join(os.path.dirname(os.path.abspath(__file__)), "../crates/rt_command/out/rt_command"))
     same, found = 0, collections.Counter()
@@ -399,17 +465,28 @@ def main():
         for name, text in TOWN.items():
             open(folder + "/town/" + name, "w").write(text)
         run = lambda *words: subprocess.run([program] + list(words), cwd=folder, stdout=subprocess.PIPE, stderr=subprocess.PIPE)
-        for seed in range(wanted):
-            draw = random.Random(seed)
-            snapshot = feed(draw)
+
+        def write(snapshot, name):
             open(folder + "/j", "w").write(json.dumps(snapshot))
             encoded = run("encode", "j")
-            assert encoded.returncode == 0, (seed, encoded.stderr)
-            open(folder + "/f", "wb").write(encoded.stdout)
+            assert encoded.returncode == 0, (snapshot, encoded.stderr)
+            open(folder + "/" + name, "wb").write(encoded.stdout)
+
+        for seed in range(wanted + wanted // 3):
+            draw = random.Random(seed)
             table = Table() if seed % 3 else None
-            moment_ = draw.choice([MOMENT, 1700000066, 1699999939, 0, 18446744073709551615])
-            want = report(snapshot, table, moment_)
-            got = run("check", *(["--timetable", "town"] if table else []), "--now", str(moment_), "f")
+            if seed >= wanted:
+                feeds, moments = history(draw)
+                for n, snapshot in enumerate(feeds): write(snapshot, "f%d" % n)
+                open(folder + "/list", "w").write("".join("0,%d,f%d\n" % (moment_, n) for n, moment_ in enumerate(moments)))
+                want = follow_report(feeds, table, moments)
+                got = run("follow", *(["--timetable", "town"] if table else []), "--list", "list")
+            else:
+                snapshot = feed(draw)
+                write(snapshot, "f")
+                moment_ = draw.choice([MOMENT, 1700000066, 1699999939, 0, 18446744073709551615])
+                want = report(snapshot, table, moment_)
+                got = run("check", *(["--timetable", "town"] if table else []), "--now", str(moment_), "f")
             lines = got.stdout.decode().splitlines()
             status = int(any(json.loads(line).get("level") in ("E", "X") for line in want))
             if lines != want or got.returncode != status:
@@ -417,7 +494,7 @@ def main():
                 print("seed %d, line %d:\n got %s\nwant %s\nstatus %d for %d" % (seed, at, lines[at:at + 1], want[at:at + 1], got.returncode, status))
                 return 1
             same += 1
-            found.update(json.loads(line)["rule"] for line in want[1:])
+            found.update(line["rule"] for line in map(json.loads, want) if line["line"] in ("finding", "opened"))
     print("%d reports are the same" % same)
     print(", ".join("%s %d" % (r["name"], found[r["name"]]) for r in RULES))
     return 0

@@ -5,7 +5,8 @@
 
 Each snapshot is written as text and encoded by `protoc --encode`, fields in the order of their numbers. Printed are, for
 the five files and then the 40 snapshots, how many bytes they have and their Adler-32; the rows for N = 7 stand in
-crates/run_cases/data/trial.cases. With --write FOLDER the files and the snapshots are written too, with a list for
+crates/run_cases/data/trial.cases. Behind them stand the sums `tested` and `peaked` of the summary line, counted here a second
+time from the texts of the entities; `--counts` prints these alone, and needs no protoc. With --write FOLDER the files and the snapshots are written too, with a list for
 `rt_command follow --timetable trial --list list.txt`, to be run in that folder.
 """
 import argparse, pathlib, subprocess, zlib
@@ -75,8 +76,22 @@ def snapshots(seed):
                     numbers[feed][k] += 1
         entity = (update, position)[feed]
         header = 'header { gtfs_realtime_version: "2.0" incrementality: FULL_DATASET timestamp: %d }' % (START + 15 * s)
-        yield feed, START + 15 * s, encode("\n".join(
-            [header] + [entity(k, letters[feed][k], numbers[feed][k]) for k in range(ENTITIES)]))
+        yield feed, START + 15 * s, header, [entity(k, letters[feed][k], numbers[feed][k]) for k in range(ENTITIES)], letters[feed][:]
+
+
+def counts(seed):
+    """`tested`: entities with another text than before. `peaked`: those, and positions of a vehicle whose peak came. All timestamps
+    are START, so no peak rises; it comes with the snapshot behind the first one that has the vehicle."""
+    last, peaks, tested, peaked = {}, set(), 0, 0
+    for feed, _, _, entities, letters in snapshots(seed):
+        texts, vehicles = last.get(feed, ([None] * ENTITIES, set()))
+        came = vehicles - peaks if feed == 1 else set()
+        peaks |= came
+        changed = [entities[k] != texts[k] for k in range(ENTITIES)]
+        tested += sum(changed)
+        peaked += sum(changed[k] or feed == 1 and (letters[k], k) in came for k in range(ENTITIES))
+        last[feed] = entities, {(letters[k], k) for k in range(ENTITIES)}
+    return tested, peaked
 
 
 def row(name, data):
@@ -86,7 +101,11 @@ def row(name, data):
 parser = argparse.ArgumentParser(description=__doc__.splitlines()[0])
 parser.add_argument("seed", nargs="?", type=int, default=7)
 parser.add_argument("--write", type=pathlib.Path)
+parser.add_argument("--counts", action="store_true")
 asked = parser.parse_args()
+if asked.counts:
+    print("tested %d, peaked %d" % counts(asked.seed))
+    raise SystemExit
 
 if asked.write:
     (asked.write / "trial").mkdir(parents=True, exist_ok=True)
@@ -95,10 +114,12 @@ for name, text in files().items():
     if asked.write:
         (asked.write / "trial" / name).write_text(text)
 listed = []
-for number, (feed, moment, data) in enumerate(snapshots(asked.seed)):
+for number, (feed, moment, header, entities, _) in enumerate(snapshots(asked.seed)):
+    data = encode("\n".join([header] + entities))
     print(row(number, data))
     listed.append("%d,%d,%d.pb\n" % (feed, moment, number))
     if asked.write:
         (asked.write / ("%d.pb" % number)).write_bytes(data)
+print("tested %d, peaked %d" % counts(asked.seed))
 if asked.write:
     (asked.write / "list.txt").write_text("".join(listed))

@@ -500,7 +500,7 @@ def check_other_files(browser):
 
 def main():
     follow, standing = reports.followed()
-    kinds = {"accepted": reports.only_accepted(), "refused": reports.only_refused(), "levels": reports.all_levels(), "follow": follow,
+    kinds = {"accepted": reports.only_accepted(), "before": reports.of_before(), "refused": reports.only_refused(), "levels": reports.all_levels(), "follow": follow,
              "hostile": reports.hostile(), "broken": reports.broken(), "far": reports.far_ahead(), "crowd": reports.crowd(), "many": reports.many(), "empty": []}
     said = {name: Said(lines) for name, lines in kinds.items()}
     expect("what was made stands", len(said["follow"].standing), standing)

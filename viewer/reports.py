@@ -9,9 +9,14 @@ def line(**keys):
     return json.dumps(keys, sort_keys=True, separators=(",", ":"), ensure_ascii=False)
 
 
-def accepted(row, feed=0, snapshot=0, moment=START, entities=0, tested=None, paired=None, bounded=None):
-    counts = [entities if count is None else count for count in (tested, paired, bounded)]
-    return line(line="accepted", row=row, feed=feed, snapshot=snapshot, moment=moment, entities=entities, tested=counts[0], paired=counts[1], bounded=counts[2])
+def accepted(row, feed=0, snapshot=0, moment=START, entities=0, tested=None, paired=None, bounded=None, peaked=None):
+    tested, paired, bounded, peaked = (entities if count is None else count for count in (tested, paired, bounded, peaked))
+    return line(line="accepted", row=row, feed=feed, snapshot=snapshot, moment=moment, entities=entities, tested=tested, paired=paired, bounded=bounded, peaked=peaked)
+
+
+def accepted_before(row, entities=0):
+    """The line of a snapshot as it was before there was the count `peaked`."""
+    return line(line="accepted", row=row, feed=0, snapshot=row, moment=START, entities=entities, tested=entities, paired=entities, bounded=entities)
 
 
 def refused(row, at, reason):
@@ -57,12 +62,20 @@ def repeated(id, occurrence, **more):
     return finding("X002", "id", [cell("id", id), fact("occurrence", value=occurrence)], id, occurrence=occurrence, **more)
 
 
+def gone_back(id, vehicle, stamp, peak, feed=0, **more):
+    return finding("X001", "vehicle.timestamp", [cell("vehicle.vehicle.id", vehicle), cell("vehicle.timestamp", stamp), fact("peak", str(feed), vehicle, value=peak)], id, feed, **more)
+
+
 def no_stamp(**more):
     return finding("E048", "header.timestamp", [fact("head_now", "header.gtfs_realtime_version", value="2.0"), fact("head_now", "header.timestamp", value=MISSING)], **more)
 
 
 def only_accepted():
     return [accepted(0, entities=3)]
+
+
+def of_before():
+    return [accepted_before(0, entities=3), gone_back("bus-7", "7", START - 40, START - 10)]
 
 
 def only_refused():
@@ -166,6 +179,8 @@ WORDS = [
     ("has_vehicle", ["trip_update", "v"], 0, "no trip update is of vehicle “v”"),
     ("first_id", ["0", "v"], "p", "the first position of vehicle “v” in feed 0 is entity “p”"),
     ("first_occurrence", ["0", "v"], 1, "that is its occurrence 1"),
+    ("peak", ["0", "v"], 1700000000, "the latest time that vehicle “v” gave before in feed 0 is 1700000000 (2023-11-14 22:13:20 UTC)"),
+    ("peak", ["0", "v"], None, "vehicle “v” gave no time before in feed 0"),
     ("new_ask", ["T"], 7, "new_ask(“T”) is 7"),
     ("cell", ["two", "keys"], None, "cell(“two”, “keys”) is null"),
 ]
