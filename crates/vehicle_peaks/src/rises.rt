@@ -1,7 +1,8 @@
 //! Vehicles whose peak is raised.
-ghost use Rattle.std.specs.Prelude.{◌≡◌, ◌==◌, ◌&&◌, ℕ, List, IfOk, not, if◌then◌else◌};
+ghost use Rattle.std.specs.Prelude.{◌≡◌, ◌&&◌, ℕ, List, IfOk, not};
 ghost use Rattle.std.specs.List.{list_any};
-ghost use Rattle.rule_table.specs.Order.{same_key};
+ghost use Rattle.std.specs.List.Sorted.{IsStrictlySortedBy};
+ghost use Rattle.rule_table.specs.Order.{key_cmp, same_key};
 ghost use Rattle.rule_table.specs.declared.key.EntityKey.{EntityKey as Key};
 ghost use Rattle.history_rules.specs.HeldPeaks.{peak_of, ids_seen};
 ghost use Rattle.entity_index.specs.Held.{entities_before, held_at};
@@ -65,7 +66,7 @@ impl Rises {
         raise_all(&self.stamps, peaks, feed)
     }
 
-    /// The keys of the feed's entities whose vehicle is one of these, but for those that are gone, each once, in order.
+    /// The keys of the feed's entities whose vehicle is one of these, but for those that are gone.
     pub fn keys(
         &self,
         alloc: Global,
@@ -73,7 +74,8 @@ impl Rises {
         feed: u8,
         gone: &[EntityKey],
     ) -> Result<Items<EntityKey>, AllocError>
-        ensures { IfOk result (λ keys. (key : Key) → list_any (same_key key) keys ≡ (not (list_any (same_key key) gone.now) && gives_rise self.now (payload_in index.now feed key))) }
+        ensures among { IfOk result (λ keys. (key : Key) → list_any (same_key key) keys ≡ (not (list_any (same_key key) gone.now) && gives_rise self.now (payload_in index.now feed key))) }
+        ensures ordered { IfOk result (λ keys. IsStrictlySortedBy key_cmp keys) }
     {
         let mut keys = raised_keys(alloc, &self.stamps, index, feed)?;
         take_out(&mut keys, gone);

@@ -35,7 +35,7 @@ returns c =
         among = λ key.
             c.in_ok-peaked.ensures.among key ∙ ap (λ (ks : List EntityKey). is_among ks key || is_among c.in_ok-raised.raised key) fresh
             ∙ peaked_keys state s c.requires.state c.requires.taken c.requires.feed c.args.rises.now c.requires.rises key (is_among c.in_ok-raised.raised key)
-            (sym (any_among key c.in_ok-raised.raised) ∙ c.in_ok-raised.ensures key
+            (sym (any_among key c.in_ok-raised.raised) ∙ c.in_ok-raised.ensures.among key
             ∙ ap (λ b. not b && gives_rise c.args.rises.now (payload_under key (entities_before s.feed (bytes_before state s.feed)))) (any_among key c.as_slice-gone.result.now)
             ∙ ap (λ (ks : List EntityKey). not (is_among ks key) && gives_rise c.args.rises.now (payload_under key (entities_before s.feed (bytes_before state s.feed)))) (c.as_slice-gone.ensures ∙ c.requires.coming.changes_are.gone_is));
       };
