@@ -4,8 +4,8 @@
     python3 bench/gate.py [CRATE..]
 
 Runs `rt ci` from nothing, over all crates or, where the kit's `rt ci` takes names, over these, and prints the processor minutes
-of each crate's proof, of its first must-fail edit (which proves the crate again), of its further ones and of its tests, then the
-twenty slowest edits. The last line has the minutes on the clock, those of all processors, how many minutes the longest chain of crates takes to
+of each crate's proof, of its first must-fail edit (which proves the crate again), of its further ones and of its tests, what `rt` itself
+took (most of it for stamps, tools/paths.py), then the twenty slowest edits. The last line has the minutes on the clock, those of all processors, how many minutes the longest chain of crates takes to
 prove, one after the other, and how rt ci ended. What rt ci prints goes to standard error. The table of docs/gate.md is made of this
 one. Which part of a crate is slow is told by bench/modules.py.
 """
@@ -159,6 +159,7 @@ def main():
         print(f"{crate:24}" + "".join(f"{by_crate[crate][kind] / 60:12.1f}" for kind in kinds))
     sums = [sum(row[kind] for row in by_crate.values()) for kind in kinds]
     print(f"{'all crates':24}" + "".join(f"{seconds / 60:12.1f}" for seconds in sums))
+    print(f"{'rt itself, and linking':24}{other / 60:12.1f}")
     print("\nslowest edits, in processor seconds")
     for name, seconds in by_edit.most_common(20):
         print(f"{seconds:7.0f} {name}")

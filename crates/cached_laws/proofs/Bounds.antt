@@ -13,15 +13,15 @@ use Rattle.rule_history.specs.Answered.{payload_under}
 use Rattle.rule_history.specs.Changed.{keeps_bounds, same_number}
 use Rattle.engine_laws.specs.HeldFeeds.{HeldFeed, last_after}
 use Rattle.engine_laws.proofs.Spots.{or_false}
-use Rattle.part_laws.specs.Bounded.{AreNumbersHeld, low_bound}
-use Rattle.part_laws.specs.Touched.{is_among}
-use Rattle.part_laws.proofs.Bounded.{numbers_held}
-use Rattle.entity_index.specs.Held.{entities_before, held_at}
+use Rattle.touched_entities.specs.part_laws.Bounded.{AreNumbersHeld, low_bound}
+use Rattle.touched_entities.specs.part_laws.Touched.{is_among}
+use Rattle.touched_entities.specs.part_laws.BoundedProofs.{numbers_held}
+use Rattle.touched_entities.specs.entity_index.Held.{entities_before, held_at}
 use Rattle.row_changes.specs.Held.{entity_at}
 use Rattle.row_changes.specs.Touched.{gives_later}
 use Rattle.row_changes.proofs.Over.{none_later}
-use Rattle.entity_parts.specs.Found.{bounded_found}
-use Rattle.entity_parts.proofs.Whole.{bounded_none, none_bounded}
+use Rattle.touched_entities.specs.entity_parts.Found.{bounded_found}
+use Rattle.touched_entities.specs.entity_parts.WholeProofs.{bounded_none, none_bounded}
 use Rattle.touched_entities.specs.Again.{payload_at}
 use Rattle.cached_laws.specs.State.{State, IsState, feed_of, header_at, snapshot_with}
 use Rattle.cached_laws.specs.Cached.{bounded_by, bounded_in}

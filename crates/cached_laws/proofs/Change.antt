@@ -22,13 +22,13 @@ use Rattle.engine_laws.proofs.Lists.{below-same}
 use Rattle.engine_laws.proofs.Places.{flat-below}
 use Rattle.engine_laws.proofs.Proved.{next_is_computed}
 use Rattle.engine_laws.proofs.Sorted.{apart_rising, entities_feed, entities_rise}
-use Rattle.part_laws.specs.FourParts.{spots_in_order, standings_in_order}
-use Rattle.part_laws.specs.Touched.{is_among}
-use Rattle.part_laws.proofs.Sparse.{touched_close, touched_open}
-use Rattle.entity_index.specs.Held.{HeldEntities, at_key, entities_before, held_at}
-use Rattle.entity_index.specs.Lists.{Lists}
-use Rattle.entity_index.proofs.AtKey.{keys-some}
-use Rattle.entity_index.proofs.Finding.{among-at}
+use Rattle.touched_entities.specs.part_laws.FourParts.{spots_in_order, standings_in_order}
+use Rattle.touched_entities.specs.part_laws.Touched.{is_among}
+use Rattle.touched_entities.specs.part_laws.SparseProofs.{touched_close, touched_open}
+use Rattle.touched_entities.specs.entity_index.Held.{HeldEntities, at_key, entities_before, held_at}
+use Rattle.touched_entities.specs.entity_index.Lists.{Lists}
+use Rattle.touched_entities.specs.entity_index.AtKeyProofs.{keys-some}
+use Rattle.touched_entities.specs.entity_index.FindingProofs.{among-at}
 use Rattle.touched_entities.specs.Again.{lists_under}
 use Rattle.touched_entities.specs.Told.{AreTolds, FeedTold, Told, feed_closed, feed_opened, feed_told, header_told, no_told, nothing_told, plus, told_at, told_between, told_parts}
 use Rattle.touched_entities.proofs.Fresh.{none_far}

@@ -16,10 +16,10 @@ use Rattle.rule_history.specs.History.{Keyed, below}
 use Rattle.rule_history.specs.Answered.{payload_under}
 use Rattle.rule_history.specs.Changed.{count_of}
 use Rattle.engine_laws.proofs.Sorted.{apart_rising, found_under}
-use Rattle.part_laws.specs.Touched.{is_among}
-use Rattle.part_laws.proofs.Sparse.{sparse}
-use Rattle.part_laws.proofs.Stays.{other_way}
-use Rattle.entity_index.proofs.Finding.{among-at}
+use Rattle.touched_entities.specs.part_laws.Touched.{is_among}
+use Rattle.touched_entities.specs.part_laws.SparseProofs.{sparse}
+use Rattle.touched_entities.specs.part_laws.StaysProofs.{other_way}
+use Rattle.touched_entities.specs.entity_index.FindingProofs.{among-at}
 use Rattle.touched_entities.proofs.Fresh.{none_far}
 
 -- whether an entity that may be there under a key passes a test

@@ -34,25 +34,25 @@ use Rattle.engine_laws.proofs.Lists.{each_of_map, filter-none, rises_below}
 use Rattle.engine_laws.proofs.Since.{findings-renewed}
 use Rattle.engine_laws.proofs.Sorted.{entities_feed, entities_rise}
 use Rattle.engine_laws.proofs.Spots.{any-having, having, is_false, is_some_one, or_false}
-use Rattle.standing_walks.specs.Merged.{merged, merged_four}
+use Rattle.touched_entities.specs.standing_walks.Merged.{merged, merged_four}
 use Rattle.history_rules.specs.Rules.{bound_rules, peak_rules}
 use Rattle.pairing_rules.specs.Pairing.{pairing_rules}
-use Rattle.part_laws.specs.FourParts.{AreFoundOf, StandOf}
-use Rattle.part_laws.proofs.AtSpot.{left_alone, neither, right_alone}
-use Rattle.part_laws.proofs.FourParts.{renewed_of}
-use Rattle.part_laws.proofs.Stays.{other_way}
-use Rattle.entity_index.specs.Changes.{fresh_places, keyed_in}
-use Rattle.entity_index.specs.Held.{entities_before, held_at}
-use Rattle.entity_index.specs.Lists.{Lists, no_lists}
-use Rattle.entity_index.proofs.AtKey.{at-mapped}
-use Rattle.entity_index.proofs.Counted.{count-ordered, length-fresh}
-use Rattle.entity_index.proofs.Taking.{keyed_apart}
+use Rattle.touched_entities.specs.part_laws.FourParts.{AreFoundOf, StandOf}
+use Rattle.touched_entities.specs.part_laws.AtSpotProofs.{left_alone, neither, right_alone}
+use Rattle.touched_entities.specs.part_laws.FourPartsProofs.{renewed_of}
+use Rattle.touched_entities.specs.part_laws.StaysProofs.{other_way}
+use Rattle.touched_entities.specs.entity_index.Changes.{fresh_places, keyed_in}
+use Rattle.touched_entities.specs.entity_index.Held.{entities_before, held_at}
+use Rattle.touched_entities.specs.entity_index.Lists.{Lists, no_lists}
+use Rattle.touched_entities.specs.entity_index.AtKeyProofs.{at-mapped}
+use Rattle.touched_entities.specs.entity_index.CountedProofs.{count-ordered, length-fresh}
+use Rattle.touched_entities.specs.entity_index.TakingProofs.{keyed_apart}
 use Rattle.row_changes.specs.Given.{rows_under}
 use Rattle.row_changes.specs.Held.{entity_at}
 use Rattle.row_changes.specs.Touched.{gives_later}
 use Rattle.row_changes.proofs.Lists.{and-none, or-none}
-use Rattle.entity_parts.specs.Found.{bounded_found, local_found, local_rules, paired_found, peaked_found}
-use Rattle.entity_parts.proofs.Whole.{bounded_of, four_groups, local_of, paired_of, peaked_of, parts_are_the_whole}
+use Rattle.touched_entities.specs.entity_parts.Found.{bounded_found, local_found, local_rules, paired_found, peaked_found}
+use Rattle.touched_entities.specs.entity_parts.WholeProofs.{bounded_of, four_groups, local_of, paired_of, peaked_of, parts_are_the_whole}
 use Rattle.touched_entities.specs.Again.{found_in, found_under, lists_at, lists_under, payload_at}
 use Rattle.touched_entities.proofs.Fresh.{fresh_far, fresh_is, fresh_none, none_far}
 use Rattle.cached_laws.specs.Cached.{AreCached, bounded_by, bounded_in, peaked_in}

@@ -8,8 +8,8 @@ use Rattle.rule_table.specs.Order.{key_cmp, same_key}
 use Rattle.rule_table.specs.Rises.{Rises, Rising}
 use Rattle.engine_laws.specs.HeldFeeds.{AreApart}
 use Rattle.engine_laws.proofs.Spots.{key_self}
-use Rattle.entity_index.specs.Held.{at_key}
-use Rattle.entity_index.proofs.AtKey.{at_first, at_later}
+use Rattle.touched_entities.specs.entity_index.Held.{at_key}
+use Rattle.touched_entities.specs.entity_index.AtKeyProofs.{at_first, at_later}
 
 -- each entry is under its key
 pub each_under : {A : Type 0} (es : List (EntityKey × A)) → AreApart es → Each (λ e. at_key e.0 es ≡ Some e.1) es

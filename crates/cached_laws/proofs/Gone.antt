@@ -8,11 +8,11 @@ use Rattle.rule_history.specs.History.{Keyed, entities_in}
 use Rattle.rule_history.specs.Answered.{payload_under}
 use Rattle.engine_laws.specs.HeldFeeds.{AreApart}
 use Rattle.engine_laws.proofs.Sorted.{apart_rising, entities_feed, entities_rise}
-use Rattle.part_laws.specs.Touched.{is_among}
-use Rattle.entity_index.specs.Changes.{gone_keys}
-use Rattle.entity_index.specs.Held.{entities_before}
-use Rattle.entity_index.proofs.AtKey.{apart-filter, at-filter, gone-filter}
-use Rattle.entity_index.proofs.Finding.{among-at}
+use Rattle.touched_entities.specs.part_laws.Touched.{is_among}
+use Rattle.touched_entities.specs.entity_index.Changes.{gone_keys}
+use Rattle.touched_entities.specs.entity_index.Held.{entities_before}
+use Rattle.touched_entities.specs.entity_index.AtKeyProofs.{apart-filter, at-filter, gone-filter}
+use Rattle.touched_entities.specs.entity_index.FindingProofs.{among-at}
 use Rattle.touched_entities.specs.Exchanged.{AreDistinct}
 use Rattle.touched_entities.proofs.Fresh.{distinct_of, none_far}
 

@@ -23,14 +23,14 @@ use Rattle.engine_laws.proofs.Lists.{below-same, map-same}
 use Rattle.engine_laws.proofs.Next.{gathered_same}
 use Rattle.engine_laws.proofs.Proved.{next_is_own}
 use Rattle.engine_laws.proofs.Sorted.{apart_rising, entities_feed, entities_rise}
-use Rattle.standing_walks.specs.Merged.{merged_four}
-use Rattle.standing_walks.specs.Walked.{IsInOrder}
-use Rattle.standing_walks.proofs.Walked.{renewed_rises}
-use Rattle.entity_index.specs.Held.{HeldEntities, at_key, entities_before, held_at, parts_at}
-use Rattle.entity_index.specs.Lists.{Lists, no_lists}
-use Rattle.entity_index.proofs.AtKey.{at-mapped, keys-apart}
-use Rattle.entity_parts.specs.Found.{local_found, paired_found, peaked_found}
-use Rattle.entity_parts.proofs.Whole.{parts_are_the_whole}
+use Rattle.touched_entities.specs.standing_walks.Merged.{merged_four}
+use Rattle.touched_entities.specs.standing_walks.Walked.{IsInOrder}
+use Rattle.touched_entities.specs.standing_walks.WalkedProofs.{renewed_rises}
+use Rattle.touched_entities.specs.entity_index.Held.{HeldEntities, at_key, entities_before, held_at, parts_at}
+use Rattle.touched_entities.specs.entity_index.Lists.{Lists, no_lists}
+use Rattle.touched_entities.specs.entity_index.AtKeyProofs.{at-mapped, keys-apart}
+use Rattle.touched_entities.specs.entity_parts.Found.{local_found, paired_found, peaked_found}
+use Rattle.touched_entities.specs.entity_parts.WholeProofs.{parts_are_the_whole}
 use Rattle.touched_entities.specs.Again as again
 use Rattle.touched_entities.specs.Again.{FindPart, found_in, found_under, lists_at, lists_under, payload_at}
 use Rattle.touched_entities.specs.Exchanged.{IsExchanged}

@@ -14,22 +14,22 @@ use Rattle.rule_table.specs.Peaks.{PeakMap}
 use Rattle.rule_history.specs.Answered.{local_answer}
 use Rattle.rule_history.specs.History.{Snapshot}
 use Rattle.rule_history.specs.Standing.{Standing, opened, closed}
-use Rattle.message_rules.specs.Message.{message_rules}
-use Rattle.schedule_rules.specs.Schedule.{schedule_rules}
+use Rattle.touched_entities.specs.message_rules.Message.{message_rules}
+use Rattle.touched_entities.specs.schedule_rules.Schedule.{schedule_rules}
 use Rattle.pairing_rules.specs.Pairing.{pairing_rules}
 use Rattle.history_rules.specs.Rules.{bound_rules, peak_rules}
-use Rattle.judging.specs.Ruled.{in_rule_order}
+use Rattle.touched_entities.specs.judging.Ruled.{in_rule_order}
 use Rattle.engine_laws.specs.HeldFeeds.{HeldFeed, rows_held}
 use Rattle.engine_laws.specs.Order.{found_cmp, Rises}
 use Rattle.engine_laws.specs.Standings.{findings_of, renewed}
 use Rattle.engine_laws.proofs.Lists.{each_of_map}
 use Rattle.engine_laws.proofs.Next.{renewed-itself}
-use Rattle.part_laws.specs.FourParts.{AreFoundOf, AreInRuleOrder, AreParts, IsInRuleOrder, StandOf, found_in_order, spots_in_order, standings_in_order}
-use Rattle.part_laws.proofs.FourParts.{in_order_renewed, merged_opens, merged_closes}
-use Rattle.entity_index.specs.Held.{HeldEntities}
-use Rattle.entity_parts.specs.Found.{local_found, paired_found, bounded_found, peaked_found, local_rules}
-use Rattle.entity_parts.specs.Rising.{local_rises, paired_rises, bounded_rises, peaked_rises}
-use Rattle.entity_parts.proofs.Whole.{four_groups, local_of, paired_of, bounded_of, peaked_of}
+use Rattle.touched_entities.specs.part_laws.FourParts.{AreFoundOf, AreInRuleOrder, AreParts, IsInRuleOrder, StandOf, found_in_order, spots_in_order, standings_in_order}
+use Rattle.touched_entities.specs.part_laws.FourPartsProofs.{in_order_renewed, merged_opens, merged_closes}
+use Rattle.touched_entities.specs.entity_index.Held.{HeldEntities}
+use Rattle.touched_entities.specs.entity_parts.Found.{local_found, paired_found, bounded_found, peaked_found, local_rules}
+use Rattle.touched_entities.specs.entity_parts.Rising.{local_rises, paired_rises, bounded_rises, peaked_rises}
+use Rattle.touched_entities.specs.entity_parts.WholeProofs.{four_groups, local_of, paired_of, bounded_of, peaked_of}
 use Rattle.touched_entities.specs.Again.{found_in, list_under, lists_under, payload_at}
 use Rattle.touched_entities.specs.Told.{told_parts}
 use Rattle.cached_laws.specs.State.{whole_of}

@@ -8,12 +8,12 @@ use Rattle.rule_history.specs.History.{Snapshot, IsTaken}
 use Rattle.rule_history.specs.Changed.{is_paired, keeps_bounds}
 use Rattle.engine_laws.specs.HeldFeeds.{HeldFeed, peaks_after, rows_held}
 use Rattle.engine_laws.specs.Order.{found_cmp, Rises}
-use Rattle.part_laws.specs.Touched.{is_among}
-use Rattle.standing_walks.specs.Walked.{IsInOrder}
-use Rattle.entity_index.specs.Held.{HeldEntities}
-use Rattle.entity_index.specs.Lists.{Lists, list_of, no_lists}
-use Rattle.entity_parts.specs.Found.{local_found, paired_found}
-use Rattle.entity_parts.specs.Rising.{local_rises, paired_rises, peaked_rises}
+use Rattle.touched_entities.specs.part_laws.Touched.{is_among}
+use Rattle.touched_entities.specs.standing_walks.Walked.{IsInOrder}
+use Rattle.touched_entities.specs.entity_index.Held.{HeldEntities}
+use Rattle.touched_entities.specs.entity_index.Lists.{Lists, list_of, no_lists}
+use Rattle.touched_entities.specs.entity_parts.Found.{local_found, paired_found}
+use Rattle.touched_entities.specs.entity_parts.Rising.{local_rises, paired_rises, peaked_rises}
 use Rattle.row_changes.specs.Given.{rows_under}
 use Rattle.row_changes.specs.Held.{entity_at}
 use Rattle.row_changes.specs.Touched.{gives_later}

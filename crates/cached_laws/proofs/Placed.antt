@@ -7,9 +7,9 @@ use Rattle.rule_table.specs.declared.key.EntityKey.{EntityKey}
 use Rattle.rule_history.specs.History.{Snapshot, entities_in, entities_of_snapshot, feed_limit, feed_limit-is}
 use Rattle.rule_history.specs.Answered.{payload_under}
 use Rattle.rule_history.specs.Changed.{is_payload}
-use Rattle.entity_index.specs.Held.{HeldEntities, entities_before, held_at, parts_at}
-use Rattle.entity_index.specs.Lists.{Lists, no_lists}
-use Rattle.entity_index.proofs.AtKey.{keys-some}
+use Rattle.touched_entities.specs.entity_index.Held.{HeldEntities, entities_before, held_at, parts_at}
+use Rattle.touched_entities.specs.entity_index.Lists.{Lists, no_lists}
+use Rattle.touched_entities.specs.entity_index.AtKeyProofs.{keys-some}
 use Rattle.touched_entities.specs.Again.{lists_at, lists_under, payload_at}
 use Rattle.touched_entities.specs.Exchanged.{IsExchanged}
 use Rattle.touched_entities.proofs.Fresh.{fresh_is}

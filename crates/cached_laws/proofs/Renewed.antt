@@ -8,9 +8,9 @@ use Rattle.engine_laws.specs.Order.{found_cmp, Rises}
 use Rattle.engine_laws.specs.Standings.{findings_of, renewed}
 use Rattle.engine_laws.proofs.Next.{renewed-itself}
 use Rattle.engine_laws.proofs.Unchanged.{opened-same, closed-same}
-use Rattle.part_laws.specs.Touched.{is_among}
-use Rattle.entity_index.specs.Held.{HeldEntities}
-use Rattle.entity_index.specs.Lists.{Lists, no_lists, list_of, with_list}
+use Rattle.touched_entities.specs.part_laws.Touched.{is_among}
+use Rattle.touched_entities.specs.entity_index.Held.{HeldEntities}
+use Rattle.touched_entities.specs.entity_index.Lists.{Lists, no_lists, list_of, with_list}
 use Rattle.touched_entities.specs.Again.{FindPart, IsPassed, found_under, list_renewed, list_under, lists_at, renewed_under, told_renewed}
 use Rattle.touched_entities.specs.Told.{FeedTold, Told, no_told, plus, told_at, told_between}
 

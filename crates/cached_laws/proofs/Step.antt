@@ -22,12 +22,12 @@ use Rattle.engine_laws.proofs.Pairing.{pairing_keeps}
 use Rattle.engine_laws.proofs.Peaking.{not_moved}
 use Rattle.engine_laws.proofs.Since.{findings-renewed}
 use Rattle.engine_laws.proofs.Spots.{or_false}
-use Rattle.part_laws.specs.Touched.{is_among}
-use Rattle.entity_index.specs.Held.{HeldEntities}
-use Rattle.entity_index.specs.Lists.{Lists, no_lists, list_of, with_list}
-use Rattle.entity_parts.specs.Found.{local_found, paired_found, bounded_found, peaked_found}
-use Rattle.entity_parts.specs.Rising.{local_rises, paired_rises, bounded_rises, peaked_rises}
-use Rattle.entity_parts.proofs.Whole.{paired_agree, paired_none, peaked_same}
+use Rattle.touched_entities.specs.part_laws.Touched.{is_among}
+use Rattle.touched_entities.specs.entity_index.Held.{HeldEntities}
+use Rattle.touched_entities.specs.entity_index.Lists.{Lists, no_lists, list_of, with_list}
+use Rattle.touched_entities.specs.entity_parts.Found.{local_found, paired_found, bounded_found, peaked_found}
+use Rattle.touched_entities.specs.entity_parts.Rising.{local_rises, paired_rises, bounded_rises, peaked_rises}
+use Rattle.touched_entities.specs.entity_parts.WholeProofs.{paired_agree, paired_none, peaked_same}
 use Rattle.row_changes.specs.Given.{rows_under}
 use Rattle.row_changes.specs.Held.{entity_at}
 use Rattle.row_changes.specs.Touched.{gives_later}

@@ -9,10 +9,10 @@ use Rattle.rule_history.specs.History.{Snapshot, IsTaken, entities_in}
 use Rattle.rule_history.specs.Answered.{payload_under}
 use Rattle.pairing_rules.specs.ByKind.{AreAlike}
 use Rattle.engine_laws.specs.HeldFeeds.{peaks_after, rows_held}
-use Rattle.part_laws.specs.Touched.{is_among}
-use Rattle.entity_index.specs.Changes.{gone_keys}
-use Rattle.entity_index.specs.Held.{HeldEntities, entities_before}
-use Rattle.entity_index.specs.Lists.{Lists, no_lists, list_of}
+use Rattle.touched_entities.specs.part_laws.Touched.{is_among}
+use Rattle.touched_entities.specs.entity_index.Changes.{gone_keys}
+use Rattle.touched_entities.specs.entity_index.Held.{HeldEntities, entities_before}
+use Rattle.touched_entities.specs.entity_index.Lists.{Lists, no_lists, list_of}
 use Rattle.touched_entities.specs.Again.{list_under, lists_at, lists_under, payload_at}
 use Rattle.touched_entities.specs.Exchanged.{IsExchanged}
 use Rattle.touched_entities.specs.Left.{told_left}

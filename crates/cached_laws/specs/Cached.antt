@@ -6,8 +6,8 @@ use Rattle.rule_table.specs.declared.key.EntityKey.{EntityKey}
 use Rattle.rule_history.specs.History.{Snapshot}
 use Rattle.engine_laws.specs.HeldFeeds.{HeldFeed, rows_held}
 use Rattle.engine_laws.specs.Standings.{findings_of}
-use Rattle.entity_index.specs.Held.{HeldEntities}
-use Rattle.entity_parts.specs.Found.{local_found, paired_found, bounded_found, peaked_found}
+use Rattle.touched_entities.specs.entity_index.Held.{HeldEntities}
+use Rattle.touched_entities.specs.entity_parts.Found.{local_found, paired_found, bounded_found, peaked_found}
 use Rattle.touched_entities.specs.Again.{FindPart, found_under, list_under}
 
 -- what bounds find by the last snapshot of a feed

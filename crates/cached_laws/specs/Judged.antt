@@ -11,12 +11,12 @@ use Rattle.rule_history.specs.History.{Snapshot}
 use Rattle.rule_history.specs.Standing.{Standing}
 use Rattle.engine_laws.specs.HeldFeeds.{head_found, peaks_after}
 use Rattle.engine_laws.specs.Standings.{renewed}
-use Rattle.part_laws.specs.Touched.{is_among}
-use Rattle.standing_walks.specs.Walked.{IsInOrder}
+use Rattle.touched_entities.specs.part_laws.Touched.{is_among}
+use Rattle.touched_entities.specs.standing_walks.Walked.{IsInOrder}
 use Rattle.history_rules.specs.HeldPeaks.{peak_of}
-use Rattle.entity_index.specs.Changes.{gone_keys}
-use Rattle.entity_index.specs.Held.{HeldEntities}
-use Rattle.entity_parts.specs.Found.{local_found, paired_found, bounded_found, peaked_found}
+use Rattle.touched_entities.specs.entity_index.Changes.{gone_keys}
+use Rattle.touched_entities.specs.entity_index.Held.{HeldEntities}
+use Rattle.touched_entities.specs.entity_parts.Found.{local_found, paired_found, bounded_found, peaked_found}
 use Rattle.touched_entities.specs.Again.{IsPassed, list_under, payload_at}
 use Rattle.touched_entities.specs.Exchanged.{IsExchanged}
 use Rattle.touched_entities.specs.Left.{told_left}

@@ -12,10 +12,10 @@ use Rattle.rule_history.specs.History.{Snapshot}
 use Rattle.rule_history.specs.Changed.{is_paired, keeps_bounds, has_moved}
 use Rattle.rule_history.specs.Peaks.{FeedPeaks}
 use Rattle.engine_laws.specs.HeldFeeds.{HeldFeed, last_after, peaks_after, rows_held}
-use Rattle.part_laws.specs.Bounded.{low_bound}
-use Rattle.part_laws.specs.Touched.{is_among}
-use Rattle.entity_index.specs.Changes.{fresh_keys}
-use Rattle.entity_index.specs.Held.{held_at}
+use Rattle.touched_entities.specs.part_laws.Bounded.{low_bound}
+use Rattle.touched_entities.specs.part_laws.Touched.{is_among}
+use Rattle.touched_entities.specs.entity_index.Changes.{fresh_keys}
+use Rattle.touched_entities.specs.entity_index.Held.{held_at}
 use Rattle.row_changes.specs.Given.{rows_under}
 use Rattle.row_changes.specs.Held.{entity_at}
 use Rattle.row_changes.specs.Touched.{gives_later}

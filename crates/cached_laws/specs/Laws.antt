@@ -13,8 +13,8 @@ use Rattle.history_rules.specs.HeldPeaks.{peak_of}
 use Rattle.pairing_rules.specs.ByKind.{AreAlike}
 use Rattle.engine_laws.specs.Delta.{Delta, IsChange, bounded_held, paired_held, peaked_held, tested_held}
 use Rattle.engine_laws.specs.HeldFeeds.{IsNext, held_after, rows_held}
-use Rattle.entity_index.specs.Changes.{fresh_places}
-use Rattle.entity_index.specs.Held.{HeldEntities}
+use Rattle.touched_entities.specs.entity_index.Changes.{fresh_places}
+use Rattle.touched_entities.specs.entity_index.Held.{HeldEntities}
 use Rattle.touched_entities.specs.Exchanged.{IsExchanged}
 use Rattle.touched_entities.specs.Told.{FeedTold, feed_closed, feed_opened}
 use Rattle.cached_laws.specs.State.{State, IsState, feed_of}

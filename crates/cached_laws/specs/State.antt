@@ -4,11 +4,11 @@ use Rattle.rule_table.specs.declared.key.EntityKey.{EntityKey}
 use Rattle.rule_history.specs.History.{Snapshot, IsTaken}
 use Rattle.rule_history.specs.Standing.{Standing}
 use Rattle.engine_laws.specs.HeldFeeds.{HeldFeed, AreOwn}
-use Rattle.standing_walks.specs.Merged.{merged_four}
-use Rattle.standing_walks.specs.Walked.{IsInOrder}
+use Rattle.touched_entities.specs.standing_walks.Merged.{merged_four}
+use Rattle.touched_entities.specs.standing_walks.Walked.{IsInOrder}
 use Rattle.history_rules.specs.HeldPeaks.{HeldPeaks, peak_of}
-use Rattle.entity_index.specs.Held.{HeldEntities, entities_before, held_at}
-use Rattle.entity_index.specs.Lists.{Lists}
+use Rattle.touched_entities.specs.entity_index.Held.{HeldEntities, entities_before, held_at}
+use Rattle.touched_entities.specs.entity_index.Lists.{Lists}
 
 -- of a feed beside its entities: the moment of its last snapshot, and what stands on its header
 pub record HeldHeader : Type 0 where

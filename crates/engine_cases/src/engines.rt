@@ -1,7 +1,7 @@
 //! Asks of an engine.
 ghost use Rattle.std.specs.Prelude.{◌≡◌};
 
-use crate::told::{say_delta, say_findings};
+use crate::told::{say_delta, say_exchange, say_findings};
 use cases::{number, say, say_some, word};
 use feed_stream::{Kept, Splitter};
 use follow_engine::{Delta, Engine};
@@ -10,6 +10,7 @@ use std::alloc::{AllocError, Global};
 use std::marker::Brand;
 use std::sync::ledger::{Blank, Ledger};
 use timetable::Timetable;
+use timetable_exchange::{Exchange, exchange};
 
 /// The files of a timetable and an engine, both empty as a case begins. The engine is boxed, so that each way out of a function
 /// here drops one box.
@@ -71,6 +72,22 @@ fn apply<D: Ledger, T: Ledger>(
     Ok((Box::new(alloc, next)?, Some(delta)))
 }
 
+// The engine with another timetable, and what that changed.
+fn turn<T: Ledger>(
+    alloc: Global,
+    engine: Box<Engine>,
+    table: Timetable,
+    tests: Blank,
+) -> Result<(Box<Engine>, Exchange), AllocError>
+    requires name { tests.name ≡ T.name }
+    requires parts { tests.parts ≡ T.parts }
+    requires one { tests.parts ≡ 1 }
+{
+    let mut tests: Steps<T> = Steps::new(tests);
+    let (next, changed) = exchange(alloc, Box::into_inner(engine), table, &mut tests)?;
+    Ok((Box::new(alloc, next)?, changed))
+}
+
 fn boxed(alloc: Global, table: Timetable) -> Result<Box<Engine>, AllocError> {
     Ok(Box::new(alloc, Engine::new(alloc, table))?)
 }
@@ -103,6 +120,21 @@ impl EngineAsks {
                 self.engine = Some(boxed(self.alloc, table)?);
                 Ok(())
             }
+            Err(fault) => say(out, format!(in self.alloc; "{fault}")?.as_str()),
+        }
+    }
+
+    // Puts the timetable of other files in the place of the engine's.
+    fn turn_to(&mut self, table: Timetable, out: &mut Vec<u8>) -> Result<(), AllocError> {
+        let engine = self.engine()?;
+        let (engine, changed) = turn::<Brand>(self.alloc, engine, table, Blank::new(1))?;
+        self.engine = Some(engine);
+        say_exchange(self.alloc, &changed, out)
+    }
+
+    fn exchange(&mut self, folder: &str, out: &mut Vec<u8>) -> Result<(), AllocError> {
+        match Timetable::load(self.alloc, &mut self.files, folder) {
+            Ok(table) => self.turn_to(table, out),
             Err(fault) => say(out, format!(in self.alloc; "{fault}")?.as_str()),
         }
     }
@@ -166,8 +198,8 @@ impl EngineAsks {
     }
 
     /// Takes `file NAME` with its text below, and `load FOLDER`, which begins an engine with the timetable of these files. Answers
-    /// `came FEED MOMENT` with a snapshot's bytes below by what it changed, `findings` and `applied`. `follow FEED MOMENT TIMES` is
-    /// `came` so many times without an answer.
+    /// `came FEED MOMENT` with a snapshot's bytes below by what it changed, `exchange FOLDER` by what another timetable changed, `findings` and `applied`.
+    /// `follow FEED MOMENT TIMES` is `came` so many times without an answer.
     pub fn answer(
         &mut self,
         words: &[String],
@@ -179,6 +211,7 @@ impl EngineAsks {
             "load" => self.load(word(words, 1), out)?,
             "came" => self.say_came(words, given, out)?,
             "follow" => self.follow(words, given, out)?,
+            "exchange" => self.exchange(word(words, 1), out)?,
             "findings" => self.say_found(out)?,
             "applied" => self.say_applied(out)?,
             _ => return Ok(false),

@@ -5,6 +5,7 @@ use feed_values::{CellRef, Path};
 use follow_engine::{Closed, Delta, Engine, Opened};
 use rule_table::{Fact, Finding, Place, cell_of};
 use std::alloc::{AllocError, Global};
+use timetable_exchange::Exchange;
 
 fn place_text(alloc: Global, place: &Place) -> Result<String, AllocError> {
     match place {
@@ -76,6 +77,18 @@ pub fn say_delta(alloc: Global, delta: &Delta, out: &mut Vec<u8>) -> Result<(), 
     say(out, counts.as_str())?;
     say_opened(alloc, delta.opened.as_slice(), out)?;
     say_closed(alloc, delta.closed.as_slice(), out)
+}
+
+/// What another timetable changed: how many entities were judged again of how many, what opened and what closed.
+pub fn say_exchange(
+    alloc: Global,
+    exchange: &Exchange,
+    out: &mut Vec<u8>,
+) -> Result<(), AllocError> {
+    let counts = format!(in alloc; "{} of {} retested", exchange.retested, exchange.entities)?;
+    say(out, counts.as_str())?;
+    say_opened(alloc, exchange.opened.as_slice(), out)?;
+    say_closed(alloc, exchange.closed.as_slice(), out)
 }
 
 /// The findings of an engine in its order, or `none`.

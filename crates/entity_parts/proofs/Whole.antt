@@ -28,8 +28,8 @@ use Rattle.rule_table.specs.Rules.{rule_number}
 use Rattle.rule_history.specs.History.{Snapshot}
 use Rattle.rule_history.specs.Answered.{heads_of, local_answer, timetable_answer, entities_differ}
 use Rattle.rule_history.specs.Standing.{Standing}
-use Rattle.message_rules.specs.Message.{message_rules}
-use Rattle.schedule_rules.specs.Schedule.{schedule_rules}
+use Rattle.judging.specs.message_rules.Message.{message_rules}
+use Rattle.judging.specs.schedule_rules.Schedule.{schedule_rules}
 use Rattle.pairing_rules.specs.Agreeing.{rules_agree, rules_none}
 use Rattle.pairing_rules.specs.Pairing.{pairing_rules}
 use Rattle.history_rules.specs.Rules.{bound_rules, peak_rules}
@@ -40,7 +40,7 @@ use Rattle.judging.proofs.Joined.{joined}
 use Rattle.engine_laws.specs.HeldFeeds.{held_answer, entity_found}
 use Rattle.engine_laws.specs.Standings.{renewed}
 use Rattle.engine_laws.proofs.AtHand.{heads_first, is_held, heads_limits}
-use Rattle.standing_walks.specs.Merged.{merged_four}
+use Rattle.part_laws.specs.standing_walks.Merged.{merged_four}
 use Rattle.part_laws.specs.FourParts.{AreFourGroups, AreFoundOf, StandOf, found_in_order}
 use Rattle.part_laws.specs.Bounded.{AreNumbersHeld, NoneAbove, low_bound}
 use Rattle.part_laws.proofs.Bounded.{bounds_are_low}

@@ -18,8 +18,8 @@ use Rattle.rule_table.specs.GroupLaws.{all_append}
 use Rattle.rule_table.specs.Pairs.{PairRow}
 use Rattle.rule_table.specs.Peaks.{PeakMap}
 use Rattle.rule_history.specs.Answered.{local_answer}
-use Rattle.message_rules.specs.Message.{message_rules}
-use Rattle.schedule_rules.specs.Schedule.{schedule_rules}
+use Rattle.judging.specs.message_rules.Message.{message_rules}
+use Rattle.judging.specs.schedule_rules.Schedule.{schedule_rules}
 use Rattle.pairing_rules.specs.Pairing.{pairing_rules}
 use Rattle.history_rules.specs.Rules.{bound_rules, peak_rules}
 use Rattle.judging.specs.Ruled.{of_rule, by_rule, in_rule_order}

@@ -13,7 +13,7 @@ use Rattle.rule_history.specs.Standing.{Standing}
 use Rattle.engine_laws.specs.HeldFeeds.{entity_found}
 use Rattle.engine_laws.specs.Order.{found_cmp, Rises}
 use Rattle.engine_laws.specs.Standings.{renewed}
-use Rattle.standing_walks.specs.Merged.{merged_four}
+use Rattle.part_laws.specs.standing_walks.Merged.{merged_four}
 use Rattle.history_rules.specs.Rules.{bound_rules, peak_rules}
 use Rattle.pairing_rules.specs.Pairing.{pairing_rules}
 use Rattle.part_laws.specs.FourParts.{StandOf}

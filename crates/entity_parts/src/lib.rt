@@ -14,9 +14,11 @@ mod peaked;
 mod rules;
 
 pub use bounded::BoundedPart;
+pub use judging::HeaderRules;
 pub use laws::{parts_are_the_whole, parts_rise};
 pub use local::LocalPart;
 pub use paired::PairedPart;
 pub use part::EntityPart;
+pub use part_laws::{Closed, FourLists, Opened, Standing, put_closed, put_opened, renew};
 pub use peaked::PeakedPart;
 pub use rules::PartRules;

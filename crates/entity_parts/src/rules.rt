@@ -1,10 +1,9 @@
 //! The groups of rules that are judged at entities.
 
 use history_rules::{BoundGroup, PeakGroup};
-use message_rules::MessageGroup;
+use judging::{MessageGroup, ScheduleGroup};
 use pairing_rules::PairGroup;
 use rule_table::Both;
-use schedule_rules::ScheduleGroup;
 
 /// The groups of rules with places at entities.
 #[derive(Drop)]

@@ -7,9 +7,9 @@ use Rattle.rule_table.specs.Pairs.{has_row}
 use Rattle.rule_history.specs.Answered.{payload_under}
 use Rattle.rule_history.specs.History.{Snapshot, entities_of_snapshot, feed_limit}
 use Rattle.engine_laws.specs.HeldFeeds.{HeldFeed}
-use Rattle.row_changes.specs.Given.{is_given, rows_under}
-use Rattle.row_changes.specs.Held.{AreOfEntities, entity_at}
-use Rattle.row_changes.specs.declared.held.HeldRows.{HeldRows}
+use Rattle.exchanged_timetables.specs.row_changes.Given.{is_given, rows_under}
+use Rattle.exchanged_timetables.specs.row_changes.Held.{AreOfEntities, entity_at}
+use Rattle.exchanged_timetables.specs.row_changes.HeldRows.{HeldRows}
 
 pub same_entities : (one two : ℕ → HeldFeed) → ((f : ℕ) → (two f).last ≡ (one f).last) → (rows : HeldRows) → AreOfEntities (entity_at one) rows → AreOfEntities (entity_at two) rows
 same_entities one two last rows are = record {

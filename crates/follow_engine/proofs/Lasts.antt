@@ -1,5 +1,5 @@
 -- The plain data of an engine are what is held of all feeds.
-use Rattle.std.specs.Prelude.{◌≡◌, ℕ, zero, suc, ◌+◌, ◌*◌, ◌<◌, ◌≤◌, nat_le, true, false, List, [], ◌∷◌, ◌++◌, length, map, get_or, Option, None, refl}
+use Rattle.std.specs.Prelude.{◌≡◌, ℕ, zero, suc, ◌+◌, ◌-◌, ◌*◌, ◌<◌, ◌≤◌, nat_le, true, false, List, [], ◌∷◌, ◌++◌, length, map, get_or, Option, None, refl}
 use Rattle.std.proofs.Common.{sym, ap, ◌∙◌, subst, arith, length-append}
 use Rattle.std.proofs.lemmas.List.{get_or_past}
 use Rattle.std.proofs.Math.Path.{fun_ext}
@@ -7,7 +7,7 @@ use borrow.Author.Tests.{leb-true, leb-false}
 use Rattle.timetable.specs.Timetables.{Tables}
 use Rattle.rule_table.specs.declared.key.EntityKey.{EntityKey}
 use Rattle.history_rules.specs.HeldPeaks.{HeldPeaks, peak_of}
-use Rattle.rule_history.specs.Standing.{Standing}
+use Rattle.rule_history.specs.Standing.{Spot, Standing}
 use Rattle.rule_history.specs.Changed.{bounded, paired, tested, with}
 use Rattle.rule_history.specs.Findings.{findings}
 use Rattle.rule_history.specs.Peaks.{FeedPeaks}
@@ -17,9 +17,12 @@ use Rattle.engine_laws.specs.HeldFeeds.{HeldFeed, IsJoined, IsNext, feed_list, h
 use Rattle.engine_laws.specs.Standings.{Held, Matches, StandsFor, renewed}
 use Rattle.engine_laws.proofs.Lists.{below-same}
 use Rattle.engine_laws.proofs.Proved.{counts_are_held, next_changes, next_matches, next_numbers, next_stands, nothing_stands}
-use Rattle.entity_index.specs.Held.{HeldEntities, held_at, nothing}
-use Rattle.cached_laws.specs.State.{HeldHeader, State, IsState, feed_of, header_at, snapshot_with, whole_of}
-use Rattle.held_feeds.specs.Entities.{entities_after, entities_held, entities_said}
+use Rattle.exchanged_timetables.specs.entity_index.Held.{HeldEntities, held_at, nothing}
+use Rattle.exchanged_timetables.specs.cached_laws.State.{HeldHeader, State, IsState, feed_of, header_at, snapshot_with, whole_of}
+use Rattle.exchanged_timetables.specs.held_feeds.Entities.{entities_after, entities_held, entities_said}
+use Rattle.exchanged_timetables.specs.Exchange.{IsExchanged}
+use Rattle.exchanged_timetables.specs.Retabled.{IsRetabled}
+use Rattle.exchanged_timetables.proofs.History.{exchange_retables}
 use Rattle.follow_engine.specs.Engines.{lasts_of}
 use Rattle.follow_engine.specs.Followed.{tests_of, tests_owed}
 
@@ -141,3 +144,9 @@ module _ (state : State) (none : (f : ℕ) → feed_of state f ≡ no_feed) (is 
 
   pub nothing_then : (t : Option Tables) → StandsFor (data_with t 0 state) t []
   nothing_then t = nothing_stands (data_with t 0 state) refl (λ f. last_at state is f ∙ ap (λ (x : HeldFeed). x.last) (none f)) (λ f vehicle. ap (λ (x : HeldFeed). x.peaks vehicle) (none f)) (no_lists feed_limit)
+
+-- ---- another timetable
+pub retabled_then : (t u : Option Tables) (n : ℕ) (old new : State) (opens : List Standing) (closes : List Spot) → IsExchanged u (n - 1) old new opens closes →
+    (x : Option Tables) (h : List Snapshot) → Matches (data_with t n old) x h → IsRetabled x u h (data_with t n old) (data_with u n new) opens closes
+retabled_then t u n old new opens closes is x h m =
+    exchange_retables (data_with t n old) (data_with u n new) (feed_of old) (feed_of new) is.was.own (are_joined t n old is.was) (are_joined u n new is.is) refl is.exchange opens closes is.opens_are is.closes_are x h m

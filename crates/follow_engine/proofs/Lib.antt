@@ -1,3 +1,4 @@
 pub mod Owed
 pub mod Lasts
 pub mod Held
+pub mod Handed

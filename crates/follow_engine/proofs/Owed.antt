@@ -6,10 +6,10 @@ use Rattle.rule_table.specs.declared.key.EntityKey.{EntityKey}
 use Rattle.rule_history.specs.History.{Snapshot, IsTaken}
 use Rattle.engine_laws.specs.Delta.{bounded_held, paired_held, tested_held}
 use Rattle.engine_laws.specs.HeldFeeds.{held_after}
-use Rattle.cached_laws.specs.State.{State, IsState, feed_of}
-use Rattle.cached_laws.specs.Cached.{AreCached}
-use Rattle.cached_laws.specs.Keys.{AreTouched}
-use Rattle.cached_laws.proofs.Counts.{bounded_size, paired_size, peaked_size, tested_size}
+use Rattle.exchanged_timetables.specs.cached_laws.State.{State, IsState, feed_of}
+use Rattle.exchanged_timetables.specs.cached_laws.Cached.{AreCached}
+use Rattle.exchanged_timetables.specs.cached_laws.Keys.{AreTouched}
+use Rattle.exchanged_timetables.specs.cached_laws.CountsProofs.{bounded_size, paired_size, peaked_size, tested_size}
 use Rattle.follow_engine.specs.Followed.{tests_owed}
 
 pub ticks_are : (state : State) (s : Snapshot) → IsState state → IsTaken s → s.feed < 16 → (t : Option Tables) (n : ℕ) → AreCached t state.index (feed_of state) → (local paired bounded peaked : List EntityKey) → AreTouched state s local paired bounded peaked →

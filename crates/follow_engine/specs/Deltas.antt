@@ -1,5 +1,5 @@
 -- What code says of a snapshot's changes, as the definitions have it.
-pub use Rattle.standing_walks.specs.Changes.{all_opened, all_closed, opened_value, closed_value}
+pub use Rattle.exchanged_timetables.specs.standing_walks.Changes.{all_opened, all_closed, opened_value, closed_value}
 use Rattle.engine_laws.specs.Delta as law
 use Rattle.follow_engine.specs.declared.delta.Delta.{Delta}
 

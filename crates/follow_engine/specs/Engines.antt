@@ -5,7 +5,7 @@ use Rattle.rule_history.specs.History.{Snapshot, below, feed_limit}
 use Rattle.engine_laws.specs.HeldFeeds.{joined}
 use Rattle.engine_laws.specs.Standings.{Held}
 use Rattle.history_rules.specs.HeldPeaks.{peak_of}
-use Rattle.cached_laws.specs.State.{State, feed_of}
+use Rattle.exchanged_timetables.specs.cached_laws.State.{State, feed_of}
 use Rattle.follow_engine.specs.declared.engine.Engine.{Engine}
 
 -- the last snapshots of all feeds

@@ -1,3 +1,3 @@
 -- The entities of the snapshots that are held, as values.
-pub use Rattle.held_feeds.specs.Entities.{entities_after, entities_held, entities_said}
-pub use Rattle.entity_index.specs.Handed.{keyed_value}
+pub use Rattle.exchanged_timetables.specs.held_feeds.Entities.{entities_after, entities_held, entities_said}
+pub use Rattle.exchanged_timetables.specs.entity_index.Handed.{keyed_value}

@@ -5,8 +5,8 @@ use Rattle.rule_history.specs.History.{Snapshot}
 use Rattle.rule_history.specs.Changed.{tested, paired, bounded, peaked}
 use Rattle.engine_laws.specs.Delta.{IsChange, bounded_held, paired_held, peaked_held, tested_held}
 use Rattle.engine_laws.specs.HeldFeeds.{HeldFeed, IsNext, held_after}
-use Rattle.cached_laws.specs.State.{State, IsState, feed_of}
-use Rattle.cached_laws.specs.Cached.{AreCached}
+use Rattle.exchanged_timetables.specs.cached_laws.State.{State, IsState, feed_of}
+use Rattle.exchanged_timetables.specs.cached_laws.Cached.{AreCached}
 use Rattle.follow_engine.specs.Deltas.{delta_value}
 use Rattle.follow_engine.specs.declared.delta.Delta.{Delta}
 

@@ -1,2 +1,2 @@
 -- Standings as they are handed out.
-pub use Rattle.held_feeds.specs.Left.{standing_of}
+pub use Rattle.exchanged_timetables.specs.held_feeds.Left.{standing_of}

@@ -1,7 +1,7 @@
 //! What a snapshot changes.
 
+use exchanged_timetables::{Closed, Opened};
 use feed_values::Items;
-use standing_walks::{Closed, Opened};
 
 /// What one more snapshot changed.
 #[derive(Drop)]

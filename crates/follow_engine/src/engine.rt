@@ -1,29 +1,31 @@
 //! The engine.
-ghost use Rattle.std.specs.Prelude.{◌≡◌, ◌+◌, ◌*◌, ◌<◌, ◌≤◌, List, [], Option, length, IfOk, OnOk};
+ghost use Rattle.std.specs.Prelude.{◌≡◌, ◌+◌, ◌-◌, ◌*◌, ◌^◌, ◌<◌, ◌≤◌, List, [], Option, length, IfOk, OnOk};
 ghost use Rattle.timetable.specs.Timetables.{Tables};
+ghost use Rattle.rule_table.specs.Rises.{Rising};
 ghost use Rattle.rule_history.specs.Answered.{tables_of};
 ghost use Rattle.rule_history.specs.Changed.{tested, with};
 ghost use Rattle.rule_history.specs.History.{Snapshot};
 ghost use Rattle.engine_laws.specs.Delta.{IsDelta};
 ghost use Rattle.rule_history.specs.Findings.{findings};
 ghost use Rattle.engine_laws.specs.Standings.{Matches, StandsFor, renewed};
-ghost use Rattle.cached_laws.specs.Cached.{AreCached};
-ghost use Rattle.cached_laws.specs.State.{feed_of};
-ghost use Rattle.held_feeds.specs.Entities.{entities_after, entities_held};
-ghost use Rattle.follow_engine.specs.Deltas.{delta_value};
+ghost use Rattle.exchanged_timetables.specs.cached_laws.Cached.{AreCached};
+ghost use Rattle.exchanged_timetables.specs.cached_laws.State.{feed_of};
+ghost use Rattle.exchanged_timetables.specs.held_feeds.Entities.{entities_after, entities_held};
+ghost use Rattle.follow_engine.specs.Deltas.{all_closed, all_opened, delta_value};
 ghost use Rattle.follow_engine.specs.Followed.{tests_of};
+ghost use Rattle.follow_engine.specs.Retabled.{AreKeysOf, FindAlikeBeside, OpensAndCloses};
 
 use crate::delta::Delta;
 use crate::following::{Followed, follow};
-use entity_index::EntityIndex;
-use entity_parts::PartRules;
+use crate::retabling::{Turned, turn};
+use exchanged_timetables::{
+    EntitiesIter, EntityIndex, Feeds, FindingsIter, HeaderRules, HeldFeeds, HeldRows, Judging,
+    PartRules, Retabled, Rules, Taken,
+};
 use feed_stream::Kept;
-use held_feeds::{EntitiesIter, Feeds, FindingsIter, HeldFeeds};
 use history_rules::Peaks;
-use judging::HeaderRules;
-use row_changes::HeldRows;
 use rt_outside::Steps;
-use snapshot_steps::{Judging, Rules, Taken};
+use rule_table::EntityKey;
 use std::alloc::{AllocError, Global};
 use std::sync::ledger::Ledger;
 use timetable::Timetable;
@@ -126,6 +128,60 @@ impl Engine {
         Ok((engine, delta))
     }
 
+    /// Puts another timetable in the place of the one that it has, and answers the engine that matches the same history with it, with what that opened and
+    /// closed. A rule at a place keeps its number, and one that is new there has the number of the last snapshot.
+    ///
+    /// Only the touched entities are judged again, so these must be all by which the two timetables find other things. `tests` ticks 40 times for each of
+    /// them. The one error is want of memory; the engine is gone then.
+    pub fn retable<T: Ledger>(
+        self,
+        table: Timetable,
+        touched: &[EntityKey],
+        tests: &mut Steps<T>,
+    ) -> Result<(Engine, Retabled), AllocError>
+        requires named { AreKeysOf (entities_held self.feeds) touched.now }
+        requires others { FindAlikeBeside touched.now (tables_of self.table) (tables_of table) (entities_held self.feeds) }
+        ensures matches { IfOk result (λ r. (t : Option Tables) (h : List Snapshot) → Matches (engine_data self) t h → Matches (engine_data r.0) (tables_of table) h) }
+        ensures numbers { IfOk result (λ r. (t : Option Tables) (h : List Snapshot) → Matches (engine_data self) t h
+            → (engine_data r.0).list ≡ renewed (engine_data self).list (length h - 1) (findings (tables_of table) h)) }
+        ensures changes { IfOk result (λ r. (t : Option Tables) (h : List Snapshot) → Matches (engine_data self) t h
+            → OpensAndCloses t (tables_of table) h (engine_data r.0).list (all_opened r.1.opened) (all_closed r.1.closed)) }
+        ensures tested { OnOk result (tests.new ≡ tests.old + 40 * length touched.now) }
+        ensures most { tests.new ≤ tests.old + 40 * length touched.now }
+    {
+        let Engine {
+            alloc,
+            rules,
+            applied,
+            feeds,
+            ..
+        } = self;
+        feeds.stands();
+        let judging = Judging {
+            alloc,
+            rules: &rules,
+            table: &table,
+            applied,
+        };
+        let Turned { feeds, retabled } = turn(&judging, feeds, touched, tests)?;
+        let engine = Engine {
+            alloc,
+            table,
+            rules,
+            applied,
+            feeds,
+        };
+        Ok((engine, retabled))
+    }
+
+    /// The timetable that it has.
+    pub fn table(&self) -> &Timetable
+        ensures held { result.now ≡ self.now.table }
+        ensures tables { tables_of result.now ≡ (engine_data self.now).table }
+    {
+        &self.table
+    }
+
     /// How many snapshots were taken.
     pub fn applied(&self) -> u64
         ensures { result ≡ (engine_data self.now).applied }
@@ -145,6 +201,8 @@ impl Engine {
     pub fn entities(&self) -> EntitiesIter<'_>
         ensures held { result ≡ entities_held self.now.feeds }
         ensures after { (t : Option Tables) (h : List Snapshot) → Matches (engine_data self.now) t h → result ≡ entities_after h }
+        ensures ordered { Rising (entities_held self.now.feeds) }
+        ensures few { length (entities_held self.now.feeds) < 2 ^ 64 }
     {
         self.feeds.stands();
         EntitiesIter::new(&self.feeds)

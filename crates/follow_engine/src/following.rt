@@ -7,22 +7,21 @@ ghost use Rattle.rule_table.specs.Rises.{Rises};
 ghost use Rattle.rule_history.specs.Answered.{tables_of};
 ghost use Rattle.rule_history.specs.History.{IsTaken};
 ghost use Rattle.engine_laws.specs.Delta.{tested_held};
-ghost use Rattle.touched_entities.specs.Told.{feed_closed, feed_opened};
-ghost use Rattle.cached_laws.specs.State.{feed_of};
-ghost use Rattle.cached_laws.specs.Cached.{AreCached};
-ghost use Rattle.snapshot_steps.specs.Taken.{snapshot_of};
+ghost use Rattle.exchanged_timetables.specs.touched_entities.Told.{feed_closed, feed_opened};
+ghost use Rattle.exchanged_timetables.specs.cached_laws.State.{feed_of};
+ghost use Rattle.exchanged_timetables.specs.cached_laws.Cached.{AreCached};
+ghost use Rattle.exchanged_timetables.specs.snapshot_steps.Taken.{snapshot_of};
 ghost use Rattle.follow_engine.specs.Deltas.{all_closed, all_opened};
 ghost use Rattle.follow_engine.specs.Followed.{IsFollowed, tests_owed};
 
 use crate::delta::Delta;
+use exchanged_timetables::{
+    Changed, Feeds, Judged, Judging, Moved, Ready, Taken, Tolds, Touched, hand_out, judge, prepare,
+};
 use feed_values::Items;
-use held_feeds::Feeds;
 use rt_outside::Steps;
-use snapshot_steps::{Judging, Moved, Taken, Touched};
 use std::alloc::{AllocError, Global};
 use std::sync::ledger::Ledger;
-use taken_snapshots::{Changed, Judged, Ready, judge, prepare};
-use touched_entities::{Tolds, hand_out};
 
 /// All that was told as what the snapshot changed.
 fn delta_of(

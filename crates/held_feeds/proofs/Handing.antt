@@ -6,7 +6,7 @@ use Rattle.rule_history.specs.History.{below, feed_limit, feed_limit-is}
 use Rattle.rule_history.specs.Standing.{Standing}
 use Rattle.engine_laws.specs.HeldFeeds.{KeyedLists, joined}
 use Rattle.history_rules.specs.HeldPeaks.{HeldPeaks}
-use Rattle.entity_index.specs.Held.{HeldEntities, entities_before, held_at, values_of}
+use Rattle.cached_laws.specs.entity_index.Held.{HeldEntities, entities_before, held_at, values_of}
 use Rattle.cached_laws.specs.State.{HeldHeader, State, feed_of, header_at, snapshot_with}
 use Rattle.held_feeds.specs.Entities.{entities_said}
 use Rattle.held_feeds.specs.States.{HandedFeed, handed_feed}

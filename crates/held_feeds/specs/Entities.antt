@@ -4,8 +4,8 @@ use denote.Ref.{Bor}
 use Rattle.feed_values.specs.declared.entity.Entity.{Entity}
 use Rattle.rule_table.specs.declared.key.EntityKey.{EntityKey}
 use Rattle.rule_history.specs.History.{Snapshot, entities_of_snapshot, below, feed_limit, now}
-use Rattle.entity_index.specs.Held.{KeyedValues, values_of}
-use Rattle.entity_index.specs.Handed.{keyed_value}
+use Rattle.cached_laws.specs.entity_index.Held.{KeyedValues, values_of}
+use Rattle.cached_laws.specs.entity_index.Handed.{keyed_value}
 use Rattle.cached_laws.specs.State.{State, feed_of}
 
 -- those of a snapshot, if there is one, in the order of their keys

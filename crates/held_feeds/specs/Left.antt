@@ -6,7 +6,7 @@ use Rattle.rule_table.specs.declared.key.EntityKey.{EntityKey}
 use Rattle.rule_table.specs.Found.{Found}
 use Rattle.rule_history.specs.Standing.{Standing}
 use Rattle.held_feeds.specs.States.{HandedFeed, handed_feed}
-use Rattle.entity_index.specs.Held.{KeyedParts}
+use Rattle.cached_laws.specs.entity_index.Held.{KeyedParts}
 use Rattle.cached_laws.specs.State.{State, whole_of}
 
 -- a finding and a number that are handed out

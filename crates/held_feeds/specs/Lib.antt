@@ -1,3 +1,11 @@
+pub mod cached_laws
+pub mod entity_index
+pub mod entity_parts
+pub mod judging
+pub mod part_laws
+pub mod row_changes
+pub mod standing_walks
+pub mod touched_entities
 pub mod States
 pub mod Left
 pub mod Entities

@@ -4,8 +4,8 @@ use denote.Ref.{Bor}
 use Rattle.engine_laws.specs.HeldFeeds.{HeldFeed, KeyedLists}
 use Rattle.rule_history.specs.History.{Snapshot}
 use Rattle.rule_history.specs.Standing.{Standing}
-use Rattle.row_changes.specs.Held.{AreOfEntities, entity_at}
-use Rattle.row_changes.specs.declared.held.HeldRows.{HeldRows}
+use Rattle.cached_laws.specs.row_changes.Held.{AreOfEntities, entity_at}
+use Rattle.cached_laws.specs.row_changes.HeldRows.{HeldRows}
 use Rattle.cached_laws.specs.State.{State, IsState, feed_of}
 use Rattle.held_feeds.specs.declared.feeds.HeldFeeds.{HeldFeeds}
 

@@ -2,15 +2,15 @@
 ghost use Rattle.std.specs.Prelude.{◌≡◌};
 ghost use Rattle.std.specs.Iterator.{YieldsFirstBy, item_count};
 ghost use Rattle.cached_laws.specs.State.{feed_of};
-ghost use Rattle.entity_index.specs.Handed.{keyed_value, listed};
+ghost use Rattle.cached_laws.specs.entity_index.Handed.{keyed_value, listed};
 ghost use Rattle.held_feeds.specs.Entities.{entities_held, entities_said};
 ghost use Rattle.held_feeds.specs.States.{state_of};
 
 use crate::feeds::{Feeds, FeedsIter, HeldFeeds};
-use entity_index::EntitiesIter as HeldEntities;
 use feed_values::Entity;
 use rule_table::EntityKey;
 use std::marker::Model;
+use touched_entities::EntitiesIter as HeldEntities;
 
 /// The entities that are left to hand out, each under its key, in the order of their keys. Contracts see it as the list of them.
 /// It takes no memory.
@@ -25,8 +25,8 @@ pub struct EntitiesIter<'a> {
 impl<'a> Model for EntitiesIter<'a> {
     ghost use Rattle.std.specs.Prelude.{◌++◌};
     ghost use Rattle.std.specs.List.{flat_map};
-    ghost use Rattle.entity_index.specs.Held.{KeyedValues};
-    ghost use Rattle.entity_index.specs.Handed.{listed};
+    ghost use Rattle.cached_laws.specs.entity_index.Held.{KeyedValues};
+    ghost use Rattle.cached_laws.specs.entity_index.Handed.{listed};
     ghost use Rattle.held_feeds.specs.Entities.{entities_said};
 
     ghost Value = { KeyedValues };

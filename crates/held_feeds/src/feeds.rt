@@ -5,13 +5,12 @@ ghost use Rattle.cached_laws.specs.State.{IsState, header_at};
 ghost use Rattle.held_feeds.specs.Left.{last_feeds};
 ghost use Rattle.held_feeds.specs.States.{feed_at_hand};
 
-use entity_index::EntityIndex;
 use feed_values::Items;
 use history_rules::Peaks;
 use row_changes::HeldRows;
-use standing_walks::Standing;
 use std::alloc::{AllocError, Global};
 use std::marker::Model;
+use touched_entities::{EntityIndex, Standing};
 
 /// What is held of a feed beside its entities: the moment of its last snapshot, in seconds from 1970, and what stands on its header.
 #[derive(Drop)]

@@ -6,10 +6,9 @@ ghost use Rattle.cached_laws.specs.State.{feed_of, whole_of};
 ghost use Rattle.held_feeds.specs.Left.{at_hand, standing_of};
 
 use crate::feeds::{Feeds, FeedsIter};
-use entity_index::{Parts, PartsIter};
 use rule_table::Finding;
-use standing_walks::{FourLists, Standing};
 use std::marker::Model;
+use touched_entities::{FourLists, Parts, PartsIter, Standing};
 
 /// What stands at an entity.
 fn whole(parts: &Parts) -> FourLists<'_>

@@ -11,3 +11,11 @@ mod findings;
 pub use entities::EntitiesIter;
 pub use feeds::{Feeds, Header, HeldFeeds, put_header};
 pub use findings::FindingsIter;
+pub use row_changes::{
+    ChangedIds, HeldRows, Kinds, bounded_keys, keys_above, low_bound, paired_keys,
+};
+pub use touched_entities::{
+    BoundedPart, Changes, Closed, EntityIndex, HeaderRules, Incoming, LocalPart, Opened,
+    PairedPart, PartRules, PeakedPart, Renewal, Standing, Tolds, close_gone, decode_fresh,
+    exchange, fresh_are_there, hand_out, judge_again, renew,
+};

@@ -1,3 +1,5 @@
+pub mod message_rules
+pub mod schedule_rules
 pub mod Ruled
 pub mod Whole
 pub mod Answering

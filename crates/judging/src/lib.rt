@@ -16,6 +16,8 @@ mod ruling;
 pub use header_rules::HeaderRules;
 pub use laws::one_snapshot_is_its_history;
 pub use marking::{finding_at, marks_at};
+pub use message_rules::MessageGroup;
 pub use rows::rows_of;
 pub use rule_table::count_one;
 pub use ruling::rule_by_rule;
+pub use schedule_rules::ScheduleGroup;

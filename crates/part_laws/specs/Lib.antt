@@ -1,3 +1,4 @@
+pub mod standing_walks
 pub mod FourParts
 pub mod Touched
 pub mod Parts

@@ -12,3 +12,4 @@ pub use laws::{
     merged_opens, merged_renews, none_is_bounded, paired_part_stays, peaked_part_stays,
     touched_close, touched_open,
 };
+pub use standing_walks::{Closed, FourLists, Opened, Standing, put_closed, put_opened, renew};

@@ -194,7 +194,7 @@ impl IndexAsks {
     ) -> Result<(Rises, Items<EntityKey>), AllocError> {
         let index = self.index()?;
         let rises = Rises::of(self.alloc, peaks, &index, feed)?;
-        let keys = rises.keys(self.alloc, &index, feed, gone)?;
+        let keys = rises.keys(self.alloc, &index, feed, gone, &[])?;
         self.index = Some(index);
         Ok((rises, keys))
     }

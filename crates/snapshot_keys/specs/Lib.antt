@@ -1,7 +1,8 @@
-pub use Rattle.rule_table.specs.Pairs
+pub mod judging
 pub use Rattle.judging.specs.Judged
 pub use Rattle.judging.specs.Seats
 pub use Rattle.pairing_rules.specs.ByKind
+pub use Rattle.rule_table.specs.Pairs
 pub mod Ids
 pub mod Places
 pub mod Rowed

@@ -13,11 +13,11 @@ use Rattle.rule_table.specs.Found.{Found}
 use Rattle.rule_table.specs.Answers.{Gathered, heads_answer}
 use Rattle.rule_history.specs.Answered.{entities_differ, heads_of}
 use Rattle.rule_history.specs.History.{Snapshot}
-use Rattle.judging.specs.Whole as whole
+use Rattle.held_feeds.specs.judging.Whole as whole
 use Rattle.engine_laws.specs.HeldFeeds.{head_found}
 use Rattle.engine_laws.proofs.AtHand.{heads_first}
-use Rattle.entity_index.specs.Changes.{is_reordered}
-use Rattle.cached_laws.specs.State.{snapshot_with}
+use Rattle.held_feeds.specs.entity_index.Changes.{is_reordered}
+use Rattle.held_feeds.specs.cached_laws.State.{snapshot_with}
 
 header_is : (t : Option Tables) (u : Gathered) (s : Snapshot) (b : Option Snapshot) → whole.header_found t u (heads_of s b) s.feed ≡ head_found s b
 unfolding whole.header_found

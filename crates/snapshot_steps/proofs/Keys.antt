@@ -6,21 +6,21 @@ use Rattle.std.proofs.Common.{sym, ap, ◌∙◌}
 use Rattle.rule_table.specs.declared.key.EntityKey.{EntityKey}
 use Rattle.rule_table.specs.Order.{key_cmp, same_key}
 use Rattle.rule_history.specs.Standing.{Standing}
-use Rattle.part_laws.specs.Touched.{is_among}
-use Rattle.entity_index.specs.Held.{HeldEntities}
-use Rattle.entity_index.specs.Lists.{Lists, list_of, no_lists, with_list}
+use Rattle.held_feeds.specs.part_laws.Touched.{is_among}
+use Rattle.held_feeds.specs.entity_index.Held.{HeldEntities}
+use Rattle.held_feeds.specs.entity_index.Lists.{Lists, list_of, no_lists, with_list}
 use Rattle.rule_history.specs.History.{Snapshot}
-use Rattle.row_changes.specs.Held.{AreOfEntities, entity_at}
-use Rattle.row_changes.specs.Touched.{is_over_given}
-use Rattle.row_changes.specs.declared.held.HeldRows.{HeldRows}
-use Rattle.row_changes.proofs.Lists.{any-same}
-use Rattle.row_changes.proofs.Over.{over}
-use Rattle.row_changes.proofs.Members.{key-symm}
-use Rattle.touched_entities.specs.Again.{FindPart, IsPassed, list_renewed, list_under, lists_at, renewed_under}
-use Rattle.touched_entities.specs.Told.{FeedTold}
-use Rattle.touched_entities.proofs.Rising.{rises_sorted}
-use Rattle.cached_laws.specs.State.{State, feed_of}
-use Rattle.cached_laws.specs.Keys.{AreKeys, is_over_then, lasts_then}
+use Rattle.held_feeds.specs.row_changes.Held.{AreOfEntities, entity_at}
+use Rattle.held_feeds.specs.row_changes.Touched.{is_over_given}
+use Rattle.held_feeds.specs.row_changes.HeldRows.{HeldRows}
+use Rattle.held_feeds.specs.row_changes.ListsProofs.{any-same}
+use Rattle.held_feeds.specs.row_changes.OverProofs.{over}
+use Rattle.held_feeds.specs.row_changes.MembersProofs.{key-symm}
+use Rattle.held_feeds.specs.touched_entities.Again.{FindPart, IsPassed, list_renewed, list_under, lists_at, renewed_under}
+use Rattle.held_feeds.specs.touched_entities.Told.{FeedTold}
+use Rattle.held_feeds.specs.touched_entities.RisingProofs.{rises_sorted}
+use Rattle.held_feeds.specs.cached_laws.State.{State, feed_of}
+use Rattle.held_feeds.specs.cached_laws.Keys.{AreKeys, is_over_then, lasts_then}
 
 pub any_among : (key : EntityKey) (keys : List EntityKey) → list_any (same_key key) keys ≡ is_among keys key
 any_among key keys = any-same (same_key key) (λ q. same_key q key) (λ q. key-symm key q) keys

@@ -11,20 +11,20 @@ use Rattle.rule_history.specs.Answered.{payload_under}
 use Rattle.rule_history.specs.Changed.{has_moved}
 use Rattle.rule_history.specs.Peaks.{FeedPeaks, raised_by}
 use Rattle.engine_laws.specs.HeldFeeds.{HeldFeed, peaks_after}
-use Rattle.part_laws.specs.Touched.{is_among}
-use Rattle.part_laws.proofs.Stays.{other_way}
+use Rattle.held_feeds.specs.part_laws.Touched.{is_among}
+use Rattle.held_feeds.specs.part_laws.StaysProofs.{other_way}
 use Rattle.history_rules.specs.HeldPeaks.{peak_of}
-use Rattle.entity_index.specs.Changes.{gone_keys}
-use Rattle.entity_index.specs.Held.{entities_before}
-use Rattle.row_changes.specs.Held.{entity_at}
-use Rattle.touched_entities.proofs.Fresh.{fresh_is, none_far}
+use Rattle.held_feeds.specs.entity_index.Changes.{gone_keys}
+use Rattle.held_feeds.specs.entity_index.Held.{entities_before}
+use Rattle.held_feeds.specs.row_changes.Held.{entity_at}
+use Rattle.held_feeds.specs.touched_entities.FreshProofs.{fresh_is, none_far}
 use Rattle.vehicle_peaks.specs.Rises.{AreRises, RisesById, gives_rise, rise_of, with_rises}
 use Rattle.vehicle_peaks.proofs.Peaks.{rises-move, rises-raise}
-use Rattle.cached_laws.specs.State.{State, IsState, feed_of}
-use Rattle.cached_laws.specs.Keys.{bytes_before, gives_moved, is_fresh_key, is_peaked_then, lasts_then}
-use Rattle.cached_laws.proofs.Bounds.{entities_are, entity_then}
-use Rattle.cached_laws.proofs.Gone.{feed_before, gone_some}
-use Rattle.cached_laws.proofs.Placed.{not_other}
+use Rattle.held_feeds.specs.cached_laws.State.{State, IsState, feed_of}
+use Rattle.held_feeds.specs.cached_laws.Keys.{bytes_before, gives_moved, is_fresh_key, is_peaked_then, lasts_then}
+use Rattle.held_feeds.specs.cached_laws.BoundsProofs.{entities_are, entity_then}
+use Rattle.held_feeds.specs.cached_laws.GoneProofs.{feed_before, gone_some}
+use Rattle.held_feeds.specs.cached_laws.PlacedProofs.{not_other}
 
 module _ (state : State) (s : Snapshot) (is : IsState state) (taken : IsTaken s) (fits : s.feed < 16) (rises : RisesById) (are : AreRises (entities_before s.feed (bytes_before state s.feed)) (peak_of state.peaks s.feed) rises) where
   abbrev old : HeldFeed
@@ -100,9 +100,9 @@ module _ (state : State) (s : Snapshot) (is : IsState state) (taken : IsTaken s)
           ∙ none_and (not (gone key))
           ∙ sym (ap (λ b. b && gives_moved old.peaks (peaks_after s (feed_of state) s.feed) (entity_at (lasts_then s (feed_of state)) key)) (other_way s.feed key.feed e))
 
-  pub peaked_keys : (key : EntityKey) (raised : Bool) → raised ≡ (not (gone key) && gives_rise rises (was key)) → (is_fresh_key state s key || raised) ≡ (is_fresh_key state s key || is_peaked_then state s key)
+  pub peaked_keys : (key : EntityKey) (raised : Bool) → raised ≡ (not (gone key) && (not (is_fresh_key state s key) && gives_rise rises (was key))) → (is_fresh_key state s key || raised) ≡ (is_fresh_key state s key || is_peaked_then state s key)
   peaked_keys key raised is_raised = either (is_fresh_key state s key) refl
     where
       either : (b : Bool) → is_fresh_key state s key ≡ b → (is_fresh_key state s key || raised) ≡ (is_fresh_key state s key || is_peaked_then state s key)
       either true e = ap (λ b. b || raised) e ∙ sym (ap (λ b. b || is_peaked_then state s key) e)
-      either false e = ap (λ b. is_fresh_key state s key || b) (is_raised ∙ peaked_beside key e)
+      either false e = ap (λ b. is_fresh_key state s key || b) (is_raised ∙ ap (λ b. not (gone key) && (not b && gives_rise rises (was key))) e ∙ peaked_beside key e)

@@ -16,24 +16,24 @@ use Rattle.rule_history.specs.Answered.{payload_under}
 use Rattle.engine_laws.specs.HeldFeeds.{IsLastOf}
 use Rattle.engine_laws.proofs.Sorted.{entities_rise}
 use Rattle.engine_laws.proofs.Spots.{key_self, or_false, or_left, or_right}
-use Rattle.part_laws.specs.Touched.{is_among}
-use Rattle.entity_index.specs.Changes.{AreIncoming, fresh_keys, gone_keys}
-use Rattle.entity_index.specs.Held.{entities_before}
-use Rattle.entity_index.specs.declared.incoming.Incoming.{Incoming}
-use Rattle.row_changes.specs.Held.{AreAllReplaced, AreReplaced, entity_at, is_done}
-use Rattle.row_changes.specs.declared.held.HeldRows.{HeldRows}
-use Rattle.row_changes.specs.declared.ids.ChangedIds.{ChangedIds}
-use Rattle.row_changes.proofs.Lists.{any-append, any-same}
-use Rattle.row_changes.proofs.Members.{key-symm}
-use Rattle.row_changes.proofs.Replaced.{all}
-use Rattle.touched_entities.specs.Exchanged.{AreDistinct}
-use Rattle.touched_entities.proofs.Fresh.{fresh_distinct, fresh_far, fresh_is, fresh_none}
-use Rattle.cached_laws.specs.State.{State, IsState, feed_of}
-use Rattle.cached_laws.specs.Keys.{bytes_before, lasts_then}
-use Rattle.cached_laws.proofs.Bounds.{entity_then, entity_was, last_entities}
-use Rattle.cached_laws.proofs.Entries.{keys_of_rising}
-use Rattle.cached_laws.proofs.Gone.{gone_distinct, gone_feed, gone_payload, gone_some}
-use Rattle.cached_laws.proofs.Placed.{not_other}
+use Rattle.held_feeds.specs.part_laws.Touched.{is_among}
+use Rattle.held_feeds.specs.entity_index.Changes.{AreIncoming, fresh_keys, gone_keys}
+use Rattle.held_feeds.specs.entity_index.Held.{entities_before}
+use Rattle.held_feeds.specs.entity_index.Incoming.{Incoming}
+use Rattle.held_feeds.specs.row_changes.Held.{AreAllReplaced, AreReplaced, entity_at, is_done}
+use Rattle.held_feeds.specs.row_changes.HeldRows.{HeldRows}
+use Rattle.held_feeds.specs.row_changes.ChangedIds.{ChangedIds}
+use Rattle.held_feeds.specs.row_changes.ListsProofs.{any-append, any-same}
+use Rattle.held_feeds.specs.row_changes.MembersProofs.{key-symm}
+use Rattle.held_feeds.specs.row_changes.ReplacedProofs.{all}
+use Rattle.held_feeds.specs.touched_entities.Exchanged.{AreDistinct}
+use Rattle.held_feeds.specs.touched_entities.FreshProofs.{fresh_distinct, fresh_far, fresh_is, fresh_none}
+use Rattle.held_feeds.specs.cached_laws.State.{State, IsState, feed_of}
+use Rattle.held_feeds.specs.cached_laws.Keys.{bytes_before, lasts_then}
+use Rattle.held_feeds.specs.cached_laws.BoundsProofs.{entity_then, entity_was, last_entities}
+use Rattle.held_feeds.specs.cached_laws.EntriesProofs.{keys_of_rising}
+use Rattle.held_feeds.specs.cached_laws.GoneProofs.{gone_distinct, gone_feed, gone_payload, gone_some}
+use Rattle.held_feeds.specs.cached_laws.PlacedProofs.{not_other}
 
 each_index : {A : Type 0} (P : A → Type 0) (xs : List A) (i : ℕ) (d : A) → i < length xs → Each P xs → P (get_or xs i d)
 each_index P [] i d l each = absurd (omega (arith, l))

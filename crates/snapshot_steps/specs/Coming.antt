@@ -3,8 +3,8 @@ use Rattle.std.specs.Prelude.{◌≡◌, List, option_map}
 use Rattle.feed_values.specs.Snapshot.{header_of}
 use Rattle.feed_values.specs.Views.{feed_header_value}
 use Rattle.rule_history.specs.History.{Snapshot}
-use Rattle.entity_index.specs.Changes.{AreIncoming, IsChanges}
-use Rattle.entity_index.specs.Held.{HeldEntities, held_at}
+use Rattle.held_feeds.specs.entity_index.Changes.{AreIncoming, IsChanges}
+use Rattle.held_feeds.specs.entity_index.Held.{HeldEntities, held_at}
 use Rattle.snapshot_steps.specs.declared.coming.Coming.{Coming}
 
 pub record IsComing (s : Snapshot) (index : List HeldEntities) (c : Coming) : Type 0 where

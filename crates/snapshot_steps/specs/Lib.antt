@@ -1,3 +1,11 @@
+pub mod cached_laws
+pub mod entity_index
+pub mod entity_parts
+pub mod held_feeds
+pub mod row_changes
+pub mod standing_walks
+pub mod touched_entities
+pub mod vehicle_peaks
 pub mod Taken
 pub mod Coming
 pub mod Moved

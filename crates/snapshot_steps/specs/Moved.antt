@@ -2,8 +2,8 @@
 use Rattle.std.specs.Prelude.{ℕ}
 use Rattle.rule_history.specs.History.{Snapshot}
 use Rattle.engine_laws.specs.HeldFeeds.{HeldFeed, rows_held}
-use Rattle.row_changes.specs.Held.{AreAllReplaced, AreKindsOf}
-use Rattle.cached_laws.specs.Keys.{lasts_then}
+use Rattle.held_feeds.specs.row_changes.Held.{AreAllReplaced, AreKindsOf}
+use Rattle.held_feeds.specs.cached_laws.Keys.{lasts_then}
 use Rattle.snapshot_steps.specs.declared.moving.Moved.{Moved}
 
 pub record IsMoved (s : Snapshot) (old : ℕ → HeldFeed) (m : Moved) : Type 0 where

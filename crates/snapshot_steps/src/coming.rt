@@ -2,19 +2,18 @@
 ghost use Rattle.std.specs.Prelude.{◌≡◌, ◌+◌, ◌≤◌, length, IfOk, OnOk, option_map};
 ghost use Rattle.feed_values.specs.Snapshot.{header_of};
 ghost use Rattle.feed_values.specs.Views.{feed_header_value};
-ghost use Rattle.entity_index.specs.Changes.{fresh_places};
-ghost use Rattle.entity_index.specs.Held.{held_at};
+ghost use Rattle.held_feeds.specs.entity_index.Changes.{fresh_places};
+ghost use Rattle.held_feeds.specs.entity_index.Held.{held_at};
 ghost use Rattle.snapshot_steps.specs.Coming.{IsComing};
 ghost use Rattle.snapshot_steps.specs.Taken.{snapshot_of};
 
 use crate::taken::Taken;
-use entity_index::{Changes, EntityIndex, Incoming, fresh_are_there};
 use feed_codec::decode_header;
 use feed_values::{FeedHeader, Items};
+use held_feeds::{Changes, EntityIndex, Incoming, decode_fresh, fresh_are_there};
 use rt_outside::Steps;
 use std::alloc::{AllocError, Global};
 use std::sync::ledger::Ledger;
-use touched_entities::decode_fresh;
 
 /// What is known of a snapshot before it takes its place: its header and that of the snapshot before it, what it changes among the entities of its
 /// feed, and those that are new or have other bytes, decoded.

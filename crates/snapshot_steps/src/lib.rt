@@ -14,9 +14,15 @@ mod taken;
 mod touching;
 
 pub use coming::{Coming, come};
+pub use held_feeds::{
+    BoundedPart, Closed, EntitiesIter, EntityIndex, Feeds, FindingsIter, Header, HeaderRules,
+    HeldFeeds, HeldRows, LocalPart, Opened, PairedPart, PartRules, PeakedPart, Renewal, Standing,
+    Tolds, close_gone, exchange, hand_out, judge_again, put_header,
+};
 pub use moving::{Moved, move_rows};
 pub use parts::{PartJudges, judge_parts};
 pub use renewing::renew_header;
 pub use rules::{Judging, Rules};
 pub use taken::Taken;
 pub use touching::{Touched, touch};
+pub use vehicle_peaks::Rises;

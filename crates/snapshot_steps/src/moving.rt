@@ -2,10 +2,10 @@
 ghost use Rattle.std.specs.Prelude.{◌≡◌, ◌++◌, [], ◌<◌, IfOk, map};
 ghost use Rattle.rule_history.specs.History.{IsTaken};
 ghost use Rattle.engine_laws.specs.HeldFeeds.{rows_held};
-ghost use Rattle.entity_index.specs.Changes.{AreIncoming};
-ghost use Rattle.row_changes.specs.Held.{AreAllReplaced, AreKindsOf, AreOfEntities, AreReplaced, entity_at};
-ghost use Rattle.cached_laws.specs.State.{IsState, feed_of};
-ghost use Rattle.cached_laws.specs.Keys.{bytes_before, lasts_then};
+ghost use Rattle.held_feeds.specs.entity_index.Changes.{AreIncoming};
+ghost use Rattle.held_feeds.specs.row_changes.Held.{AreAllReplaced, AreKindsOf, AreOfEntities, AreReplaced, entity_at};
+ghost use Rattle.held_feeds.specs.cached_laws.State.{IsState, feed_of};
+ghost use Rattle.held_feeds.specs.cached_laws.Keys.{bytes_before, lasts_then};
 ghost use Rattle.held_feeds.specs.States.{state_of};
 ghost use Rattle.snapshot_steps.specs.Coming.{IsComing};
 ghost use Rattle.snapshot_steps.specs.Moved.{IsMoved};
@@ -13,9 +13,7 @@ ghost use Rattle.snapshot_steps.specs.Taken.{snapshot_of};
 
 use crate::coming::Coming;
 use crate::taken::Taken;
-use entity_index::Incoming;
-use held_feeds::HeldFeeds;
-use row_changes::{ChangedIds, HeldRows, Kinds};
+use held_feeds::{ChangedIds, HeldFeeds, HeldRows, Incoming, Kinds};
 use rule_table::EntityKey;
 use std::alloc::{AllocError, Global};
 

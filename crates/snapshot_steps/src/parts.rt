@@ -3,15 +3,15 @@ ghost use Rattle.std.specs.Prelude.{◌≡◌, ◌+◌, ◌*◌, ◌≤◌, leng
 ghost use Rattle.feed_values.specs.Views.{natural};
 ghost use Rattle.rule_history.specs.Answered.{tables_of};
 ghost use Rattle.history_rules.specs.HeldPeaks.{peak_of};
-ghost use Rattle.cached_laws.specs.Judged.{ArePassed, CanBePassed};
+ghost use Rattle.held_feeds.specs.cached_laws.Judged.{ArePassed, CanBePassed};
 
 use crate::touching::Touched;
-use entity_index::EntityIndex;
-use entity_parts::{BoundedPart, LocalPart, PairedPart, PeakedPart};
+use held_feeds::{
+    BoundedPart, EntityIndex, LocalPart, PairedPart, PeakedPart, Renewal, Tolds, judge_again,
+};
 use rt_outside::Steps;
 use std::alloc::{AllocError, Global};
 use std::sync::ledger::Ledger;
-use touched_entities::{Renewal, Tolds, judge_again};
 
 /// What judges the parts: by an entity with the timetable, with pairing rows, by bounds, and by peaks; and how many snapshots were taken.
 #[derive(Clone, Copy)]

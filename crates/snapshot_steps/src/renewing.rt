@@ -2,10 +2,10 @@
 ghost use Rattle.std.specs.Prelude.{◌≡◌, ◌+◌, ◌≤◌, ◌==◌, ℕ, List, IfOk, OnOk, if◌then◌else◌};
 ghost use Rattle.rule_table.specs.declared.key.EntityKey.{EntityKey as Key};
 ghost use Rattle.engine_laws.specs.HeldFeeds.{head_found};
-ghost use Rattle.standing_walks.specs.Walked.{IsInOrder};
-ghost use Rattle.touched_entities.specs.Told.{AreTolds, header_told, plus, told_at, told_between};
-ghost use Rattle.cached_laws.specs.State.{feed_of, header_at};
-ghost use Rattle.cached_laws.specs.Judged.{header_then};
+ghost use Rattle.held_feeds.specs.standing_walks.Walked.{IsInOrder};
+ghost use Rattle.held_feeds.specs.touched_entities.Told.{AreTolds, header_told, plus, told_at, told_between};
+ghost use Rattle.held_feeds.specs.cached_laws.State.{feed_of, header_at};
+ghost use Rattle.held_feeds.specs.cached_laws.Judged.{header_then};
 ghost use Rattle.held_feeds.specs.States.{state_of};
 ghost use Rattle.snapshot_steps.specs.Coming.{IsComing};
 ghost use Rattle.snapshot_steps.specs.Taken.{snapshot_of};
@@ -14,13 +14,11 @@ use crate::coming::Coming;
 use crate::rules::Judging;
 use crate::taken::Taken;
 use feed_values::Items;
-use held_feeds::HeldFeeds;
+use held_feeds::{HeldFeeds, Standing, Tolds, renew};
 use rt_outside::Steps;
 use rule_table::Finding;
-use standing_walks::{Standing, renew};
 use std::alloc::AllocError;
 use std::sync::ledger::Ledger;
-use touched_entities::Tolds;
 
 /// The findings on the header of a snapshot, with the snapshot before it. It ticks ten times.
 fn judge_header<T: Ledger>(

@@ -1,7 +1,6 @@
 //! The groups of rules.
 
-use entity_parts::PartRules;
-use judging::HeaderRules;
+use held_feeds::{HeaderRules, PartRules};
 use std::alloc::Global;
 use timetable::Timetable;
 

@@ -5,15 +5,16 @@ ghost use Rattle.std.specs.List.{list_any};
 ghost use Rattle.feed_values.specs.Views.{natural};
 ghost use Rattle.rule_table.specs.declared.key.EntityKey.{EntityKey as Key};
 ghost use Rattle.rule_table.specs.Order.{key_cmp, same_key};
+ghost use Rattle.rule_table.specs.Rises.{Rises as AreRising};
 ghost use Rattle.rule_history.specs.Changed.{keeps_bounds, same_number};
 ghost use Rattle.rule_history.specs.History.{IsTaken};
-ghost use Rattle.part_laws.specs.Touched.{is_among};
+ghost use Rattle.held_feeds.specs.part_laws.Touched.{is_among};
 ghost use Rattle.history_rules.specs.HeldPeaks.{peak_of};
-ghost use Rattle.entity_index.specs.Held.{entities_before};
+ghost use Rattle.held_feeds.specs.entity_index.Held.{entities_before};
 ghost use Rattle.vehicle_peaks.specs.Rises.{AreRises};
-ghost use Rattle.row_changes.specs.Touched.{is_over, is_over_given};
-ghost use Rattle.cached_laws.specs.State.{IsState, feed_of};
-ghost use Rattle.cached_laws.specs.Keys.{AreBoundedKeys, AreKeys, AreTouched, IsBoundOf, bytes_before};
+ghost use Rattle.held_feeds.specs.row_changes.Touched.{is_over, is_over_given};
+ghost use Rattle.held_feeds.specs.cached_laws.State.{IsState, feed_of};
+ghost use Rattle.held_feeds.specs.cached_laws.Keys.{AreBoundedKeys, AreKeys, AreTouched, IsBoundOf, bytes_before, is_fresh_key};
 ghost use Rattle.held_feeds.specs.States.{state_of};
 ghost use Rattle.snapshot_steps.specs.Coming.{IsComing};
 ghost use Rattle.snapshot_steps.specs.Moved.{IsMoved};
@@ -23,9 +24,8 @@ use crate::coming::Coming;
 use crate::moving::Moved;
 use crate::taken::Taken;
 use feed_values::Items;
-use held_feeds::HeldFeeds;
+use held_feeds::{HeldFeeds, bounded_keys, keys_above, low_bound, paired_keys};
 use history_rules::StampIndex;
-use row_changes::{bounded_keys, keys_above, low_bound, paired_keys};
 use rule_table::{EntityKey, keys_in_order};
 use std::alloc::{AllocError, Global};
 use std::collections::BTreeSet;
@@ -74,7 +74,7 @@ fn in_order(alloc: Global, some: &[EntityKey]) -> Result<Items<EntityKey>, Alloc
 }
 
 /// Some keys and others in order, each once.
-fn joined(
+fn put_in_order(
     alloc: Global,
     some: &[EntityKey],
     more: Items<EntityKey>,
@@ -86,6 +86,34 @@ fn joined(
     put_keys(&mut keys, more)?;
     let found = keys_in_order(alloc, keys)?;
     Ok(found)
+}
+
+/// Copies of some keys, in their order.
+fn copied(alloc: Global, some: &[EntityKey]) -> Result<Items<EntityKey>, AllocError>
+    ensures { IfOk result (λ keys. keys ≡ some.now) }
+{
+    let mut keys = Items::new(alloc);
+    for key in some {
+        keys.push(key.clone(alloc)?)?;
+    }
+    Ok(keys)
+}
+
+/// Some keys in order and others, all in order, each once. Where there are no others, none is compared.
+fn joined(
+    alloc: Global,
+    some: &[EntityKey],
+    more: Items<EntityKey>,
+) -> Result<Items<EntityKey>, AllocError>
+    requires { AreRising key_cmp some.now }
+    ensures { IfOk result (AreKeys (λ key. is_among some.now key || is_among more key)) }
+{
+    if more.as_slice().is_empty() {
+        let keys = copied(alloc, some)?;
+        return Ok(keys);
+    }
+    let keys = put_in_order(alloc, some, more)?;
+    Ok(keys)
 }
 
 fn is_same_timestamp(a: Option<u64>, b: Option<u64>) -> bool
@@ -145,16 +173,17 @@ fn touch_bounded(
     taken: &Taken,
     coming: &Coming,
     moved: &Moved,
+    fresh: &[EntityKey],
 ) -> Result<Items<EntityKey>, AllocError>
     requires coming { IsComing (snapshot_of taken.now) held.now.index coming.now }
     requires moved { IsMoved (snapshot_of taken.now) (feed_of (state_of held.now)) moved.now }
+    requires fresh { AreKeys (is_fresh_key (state_of held.now) (snapshot_of taken.now)) fresh.now }
     ensures { IfOk result (AreBoundedKeys (state_of held.now) (snapshot_of taken.now)) }
 {
-    let fresh = coming.changes.keys.as_slice();
     let before = bound_before(held, taken, coming);
     let now = low_bound(coming.header.timestamp, taken.moment);
     if keeps_bounds(held, taken, coming) {
-        let keys = in_order(alloc, fresh)?;
+        let keys = copied(alloc, fresh)?;
         return Ok(keys);
     }
     let over = over_bounds(alloc, &moved.rows.stamps, taken.feed, before, now)?;
@@ -179,13 +208,13 @@ pub fn touch(
     requires rises { AreRises (entities_before taken.now.feed (bytes_before (state_of held.now) taken.now.feed)) (peak_of held.now.peaks taken.now.feed) rises.now }
     ensures { IfOk result (λ t. AreTouched (state_of held.now) (snapshot_of taken.now) t.local t.paired t.bounded t.peaked) }
 {
-    let fresh = coming.changes.keys.as_slice();
-    let local = in_order(alloc, fresh)?;
+    let local = in_order(alloc, coming.changes.keys.as_slice())?;
+    let fresh = local.as_slice();
     let concerned = paired_keys(alloc, &moved.rows.pairs, &moved.ids, moved.before)?;
     let paired = joined(alloc, fresh, concerned)?;
-    let bounded = touch_bounded(alloc, held, taken, coming, moved)?;
+    let bounded = touch_bounded(alloc, held, taken, coming, moved, fresh)?;
     let gone = coming.changes.gone.as_slice();
-    let raised = rises.keys(alloc, &held.index, taken.feed, gone)?;
+    let raised = rises.keys(alloc, &held.index, taken.feed, gone, fresh)?;
     let peaked = joined(alloc, fresh, raised)?;
     Ok(Touched {
         local,

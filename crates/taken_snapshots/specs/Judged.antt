@@ -9,9 +9,9 @@ use Rattle.rule_table.specs.Rises.{Rises}
 use Rattle.rule_history.specs.History.{Snapshot}
 use Rattle.engine_laws.specs.Delta.{Delta, IsChange}
 use Rattle.engine_laws.specs.HeldFeeds.{IsNext}
-use Rattle.touched_entities.specs.Told.{FeedTold, feed_closed, feed_opened}
-use Rattle.cached_laws.specs.State.{State, IsState, feed_of}
-use Rattle.cached_laws.specs.Cached.{AreCached}
+use Rattle.snapshot_steps.specs.touched_entities.Told.{FeedTold, feed_closed, feed_opened}
+use Rattle.snapshot_steps.specs.cached_laws.State.{State, IsState, feed_of}
+use Rattle.snapshot_steps.specs.cached_laws.Cached.{AreCached}
 use Rattle.snapshot_steps.specs.declared.touching.Touched.{Touched}
 
 -- The feeds are what is owed for the snapshot, their lists are what each part finds, and what was told is what changed.

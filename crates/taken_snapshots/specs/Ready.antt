@@ -2,10 +2,10 @@
 use Rattle.std.specs.Prelude.{ℕ, ◌+◌, ◌*◌, length}
 use Rattle.rule_history.specs.History.{Snapshot}
 use Rattle.history_rules.specs.HeldPeaks.{peak_of}
-use Rattle.entity_index.specs.Held.{entities_before}
-use Rattle.vehicle_peaks.specs.Rises.{AreRises}
-use Rattle.cached_laws.specs.State.{State, feed_of}
-use Rattle.cached_laws.specs.Keys.{AreTouched, bytes_before}
+use Rattle.snapshot_steps.specs.entity_index.Held.{entities_before}
+use Rattle.snapshot_steps.specs.vehicle_peaks.Rises.{AreRises}
+use Rattle.snapshot_steps.specs.cached_laws.State.{State, feed_of}
+use Rattle.snapshot_steps.specs.cached_laws.Keys.{AreTouched, bytes_before}
 use Rattle.snapshot_steps.specs.Coming.{IsComing}
 use Rattle.snapshot_steps.specs.Moved.{IsMoved}
 use Rattle.snapshot_steps.specs.declared.touching.Touched.{Touched}

@@ -8,3 +8,8 @@ mod telling;
 
 pub use placing::{Judged, judge};
 pub use preparing::{Changed, Ready, prepare};
+pub use snapshot_steps::{
+    Closed, EntitiesIter, EntityIndex, Feeds, FindingsIter, HeaderRules, HeldFeeds, HeldRows,
+    Judging, LocalPart, Moved, Opened, PartRules, Renewal, Rules, Taken, Tolds, Touched, hand_out,
+    judge_again,
+};

@@ -2,14 +2,14 @@
 ghost use Rattle.std.specs.Prelude.{◌≡◌, ◌+◌, ◌*◌, ◌<◌, ◌≤◌, ℕ, length, IfOk, OnOk};
 ghost use Rattle.rule_history.specs.Answered.{tables_of};
 ghost use Rattle.rule_history.specs.History.{IsTaken};
-ghost use Rattle.cached_laws.specs.State.{IsState, feed_of};
+ghost use Rattle.snapshot_steps.specs.cached_laws.State.{IsState, feed_of};
 ghost use Rattle.history_rules.specs.HeldPeaks.{peak_of};
-ghost use Rattle.entity_index.specs.Held.{entities_before};
-ghost use Rattle.vehicle_peaks.specs.Rises.{AreRises};
-ghost use Rattle.cached_laws.specs.Cached.{AreCached};
-ghost use Rattle.cached_laws.specs.Judged.{AreFirstTold, IsTakenIn};
-ghost use Rattle.cached_laws.specs.Keys.{bytes_before};
-ghost use Rattle.held_feeds.specs.States.{state_of};
+ghost use Rattle.snapshot_steps.specs.entity_index.Held.{entities_before};
+ghost use Rattle.snapshot_steps.specs.vehicle_peaks.Rises.{AreRises};
+ghost use Rattle.snapshot_steps.specs.cached_laws.Cached.{AreCached};
+ghost use Rattle.snapshot_steps.specs.cached_laws.Judged.{AreFirstTold, IsTakenIn};
+ghost use Rattle.snapshot_steps.specs.cached_laws.Keys.{bytes_before};
+ghost use Rattle.snapshot_steps.specs.held_feeds.States.{state_of};
 ghost use Rattle.snapshot_steps.specs.Taken.{snapshot_of};
 ghost use Rattle.taken_snapshots.specs.Judged.{IsJudged};
 ghost use Rattle.snapshot_steps.specs.Coming.{IsComing};
@@ -17,15 +17,14 @@ ghost use Rattle.taken_snapshots.specs.Ready.{IsChanged, tests_at};
 
 use crate::preparing::Changed;
 use crate::telling::{First, tell_first};
-use entity_parts::{BoundedPart, LocalPart, PairedPart, PeakedPart};
 use feed_values::FeedHeader;
-use held_feeds::{Header, HeldFeeds, put_header};
 use rt_outside::Steps;
-use snapshot_steps::{Coming, Judging, PartJudges, Taken, judge_parts};
+use snapshot_steps::{
+    BoundedPart, Coming, Header, HeldFeeds, Judging, LocalPart, PairedPart, PartJudges, PeakedPart,
+    Rises, Taken, Tolds, exchange, judge_parts, put_header,
+};
 use std::alloc::{AllocError, Global};
 use std::sync::ledger::Ledger;
-use touched_entities::{Tolds, exchange};
-use vehicle_peaks::Rises;
 
 /// The feeds with the snapshot judged in its place, and all that was told.
 #[derive(Drop)]

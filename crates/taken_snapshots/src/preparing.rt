@@ -1,22 +1,21 @@
 //! What is known of a snapshot before it takes its place.
 ghost use Rattle.std.specs.Prelude.{◌≡◌, ◌+◌, ◌<◌, ◌≤◌, length, IfOk, OnOk};
 ghost use Rattle.rule_history.specs.History.{IsTaken};
-ghost use Rattle.entity_index.specs.Changes.{fresh_places};
-ghost use Rattle.row_changes.specs.Held.{AreOfEntities, entity_at};
-ghost use Rattle.cached_laws.specs.State.{IsState, feed_of};
-ghost use Rattle.cached_laws.specs.Keys.{bytes_before};
-ghost use Rattle.held_feeds.specs.States.{state_of};
+ghost use Rattle.snapshot_steps.specs.entity_index.Changes.{fresh_places};
+ghost use Rattle.snapshot_steps.specs.row_changes.Held.{AreOfEntities, entity_at};
+ghost use Rattle.snapshot_steps.specs.cached_laws.State.{IsState, feed_of};
+ghost use Rattle.snapshot_steps.specs.cached_laws.Keys.{bytes_before};
+ghost use Rattle.snapshot_steps.specs.held_feeds.States.{state_of};
 ghost use Rattle.snapshot_steps.specs.Taken.{snapshot_of};
 ghost use Rattle.snapshot_steps.specs.Coming.{IsComing};
 ghost use Rattle.taken_snapshots.specs.Ready.{IsChanged, IsReady};
 
-use held_feeds::HeldFeeds;
-use row_changes::HeldRows;
 use rt_outside::Steps;
-use snapshot_steps::{Coming, Judging, Moved, Taken, Touched, come, move_rows, touch};
+use snapshot_steps::{
+    Coming, HeldFeeds, HeldRows, Judging, Moved, Rises, Taken, Touched, come, move_rows, touch,
+};
 use std::alloc::{AllocError, Global};
 use std::sync::ledger::Ledger;
-use vehicle_peaks::Rises;
 
 /// What a snapshot changes beside its own entities: the rows as they are then, the peaks that it raises, and the keys that are judged again.
 #[derive(Drop)]

@@ -1,22 +1,21 @@
 //! What is told before entities are judged.
 ghost use Rattle.std.specs.Prelude.{◌≡◌, ◌+◌, ◌≤◌, ℕ, IfOk, OnOk};
 ghost use Rattle.rule_table.specs.declared.key.EntityKey.{EntityKey as Key};
-ghost use Rattle.standing_walks.specs.Walked.{IsInOrder};
-ghost use Rattle.touched_entities.specs.Again.{list_under};
-ghost use Rattle.cached_laws.specs.State.{IsState};
-ghost use Rattle.cached_laws.specs.Judged.{AreFirstTold, header_then};
-ghost use Rattle.held_feeds.specs.States.{state_of};
+ghost use Rattle.snapshot_steps.specs.standing_walks.Walked.{IsInOrder};
+ghost use Rattle.snapshot_steps.specs.touched_entities.Again.{list_under};
+ghost use Rattle.snapshot_steps.specs.cached_laws.State.{IsState};
+ghost use Rattle.snapshot_steps.specs.cached_laws.Judged.{AreFirstTold, header_then};
+ghost use Rattle.snapshot_steps.specs.held_feeds.States.{state_of};
 ghost use Rattle.snapshot_steps.specs.Coming.{IsComing};
 ghost use Rattle.snapshot_steps.specs.Taken.{snapshot_of};
 
 use feed_values::Items;
-use held_feeds::HeldFeeds;
 use rt_outside::Steps;
-use snapshot_steps::{Coming, Judging, Taken, renew_header};
-use standing_walks::Standing;
+use snapshot_steps::{
+    Coming, HeldFeeds, Judging, Standing, Taken, Tolds, close_gone, renew_header,
+};
 use std::alloc::{AllocError, Global};
 use std::sync::ledger::Ledger;
-use touched_entities::{Tolds, close_gone};
 
 /// What stands on the header then, and what was told: what closes at entities that are gone, and what opens and closes on the header.
 #[derive(Drop)]

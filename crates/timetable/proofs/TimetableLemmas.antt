@@ -1,7 +1,9 @@
 -- Timetables that were read.
 use Rattle.std.proofs.Common.{◌≡◌, ◌<◌, inl, inr, ℕ, List, [], ◌∷◌, Bor, Option, Some, None, Ok, IfSome, length, option_map, unwrap_or, sym, ap, ◌∙◌, refl, subst}
 use Rattle.std.specs.FinMap.{empty, entries, get, get-empty}
+use Rattle.std.specs.List.{IsDistinct}
 use Rattle.std.specs.Option.{option_and_then, option_copied}
+use Rattle.std.specs.Str.{bytes_eq}
 use Rattle.rt_outside.specs.Store.{Contents}
 use Rattle.csv_records.specs.Results.{then_with}
 use Rattle.schedule_tables.specs.Folders.{IsRead}
@@ -41,6 +43,11 @@ pub stops_of_read : (table : StopTable) → IsRead visits table → HaveStops ta
 stops_of_read table (inl e) = cc e
 stops_of_read table (inr read) = let held = rows_of_read read.0 table read.1 in let says = held.1 in says.stops
 
+-- of which none has two numbers
+pub stops_differ_of_read : (table : StopTable) → IsRead visits table → IsDistinct bytes_eq table.stops
+stops_differ_of_read table (inl e) = cc e
+stops_differ_of_read table (inr read) = let held = rows_of_read read.0 table read.1 in let says = held.1 in says.distinct
+
 pub tables_of_loaded : (folder : List ℕ) (loaded : Loaded) (told : Option Contents) → IfSome told (λ contents. loaded_from folder contents ≡ Ok loaded)
     → IfSome told (λ contents. tables_of folder contents ≡ Ok (tables_from loaded))
 tables_of_loaded folder loaded None h = tt
@@ -49,6 +56,15 @@ tables_of_loaded folder loaded (Some contents) h = ap (λ r. then_with r (λ l. 
 -- a timetable that was not given has no row under any id
 pub no_row : {G : Type 0} (timetable : Timetable) (table : Tables → ByText G) (id : Text) → timetable.tables ≡ None → table no_tables ≡ empty → None ≡ get (table (tables_in timetable)) id
 no_row timetable table id none is = sym (ap (λ tables. get (table (tables_in (record { tables = tables }))) id) none ∙ ap (λ m. get m id) is ∙ get-empty _ id)
+
+-- none of the stops of a timetable has two numbers
+pub stops_differ_in : (timetable : Timetable) → IsDistinct bytes_eq (tables_in timetable).stop_times.stops
+unfolding IsDistinct
+stops_differ_in timetable = by (tables_held timetable)
+  where
+    by : (held : Option HeldTables) → IsDistinct bytes_eq (unwrap_or (option_map tables_from_held held) no_tables).stop_times.stops
+    by None = tt
+    by (Some held) = held.stops_differ
 
 -- the tables of one that was given are those that it holds
 pub tables_of_held : (timetable : Timetable) (held : HeldTables) → tables_held timetable ≡ Some held → tables_from_held held ≡ tables_in timetable

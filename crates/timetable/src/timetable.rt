@@ -1,7 +1,10 @@
 //! A timetable in memory.
 
 ghost use Rattle.std.specs.Prelude.{ℕ, ◌≡◌, ◌≢◌, ◌≤◌, Ok, Err, IfOk, IfErr, IfSome, IfNone, None, Some, true, false, All, is_some, length, option_copied, option_map, option_and_then, slice_get, unwrap_or, []};
+ghost use Rattle.std.proofs.Props.{props};
 ghost use Rattle.std.specs.FinMap as map;
+ghost use Rattle.std.specs.List.{IsDistinct};
+ghost use Rattle.std.specs.Str.{bytes_eq};
 ghost use Rattle.rt_outside.specs.Causes.{Rose};
 ghost use Rattle.rt_outside.specs.Store.{contents_told};
 ghost use Rattle.schedule_tables.specs.Folders.{path};
@@ -65,6 +68,7 @@ struct HeldTables {
     twice: Vec<bool>,
     kinds: Vec<Option<u32>>,
     ghost have_stops: { HaveStops stop_times },
+    ghost stops_differ: { IsDistinct bytes_eq stop_times.stops } by { Prim.hlevel props },
     ghost knows_twice: { KnowsTwice trips stop_times twice.items },
     ghost knows_kinds: { KnowsKinds stops stop_times.stops kinds.items },
 }
@@ -154,7 +158,8 @@ impl Timetable {
     }
 
     fn with_tables(alloc: Global, loaded: Loaded) -> Result<Timetable, AllocError>
-        requires { HaveStops (stop_times_in loaded) }
+        requires stops { HaveStops (stop_times_in loaded) }
+        requires differ { IsDistinct bytes_eq (stop_times_in loaded).stops }
         ensures present { IfOk result (λ timetable. is_present timetable ≡ true) }
         ensures tables { IfOk result (λ timetable. tables_from loaded ≡ tables_in timetable) }
     {
@@ -181,6 +186,11 @@ impl Timetable {
             tables: Some(Box::new(alloc, held)?),
         })
     }
+
+    /// No stop of the stop times has two numbers, so that stop times with one stop's number are those with one stop's id.
+    pub fn stops_differ(&self)
+        ensures { IsDistinct bytes_eq (tables_in self.now).stop_times.stops }
+    {}
 
     /// Whether the timetable was loaded.
     pub fn is_present(&self) -> bool

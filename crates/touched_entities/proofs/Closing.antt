@@ -5,7 +5,7 @@ use Rattle.rule_table.specs.declared.key.EntityKey.{EntityKey}
 use Rattle.rule_table.specs.Order.{same_key}
 use Rattle.rule_history.specs.Standing.{Standing}
 use Rattle.engine_laws.proofs.Spots.{key_is}
-use Rattle.part_laws.specs.Touched.{is_among}
+use Rattle.entity_parts.specs.part_laws.Touched.{is_among}
 use Rattle.entity_index.specs.Held.{HeldEntities}
 use Rattle.touched_entities.specs.Again.{list_under}
 use Rattle.touched_entities.specs.Left.{told_left}

@@ -12,7 +12,7 @@ use Rattle.rule_history.specs.Answered.{payload_under}
 use Rattle.engine_laws.specs.Delta.{is_other}
 use Rattle.engine_laws.specs.HeldFeeds.{AreApart}
 use Rattle.engine_laws.proofs.Sorted.{entities_feed}
-use Rattle.part_laws.specs.Touched.{is_among}
+use Rattle.entity_parts.specs.part_laws.Touched.{is_among}
 use Rattle.entity_index.specs.Changes.{fresh_keys, keyed_in}
 use Rattle.entity_index.specs.Held.{at_key, entities_before}
 use Rattle.entity_index.proofs.AtKey.{at-filter, at-ordered, apart-filter, gone-filter, none_at}

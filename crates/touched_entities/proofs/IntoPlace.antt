@@ -14,7 +14,7 @@ use Rattle.rule_table.specs.Order.{same_key}
 use Rattle.rule_history.specs.History.{Keyed, entities_in}
 use Rattle.rule_history.specs.Answered.{payload_under}
 use Rattle.engine_laws.proofs.Spots.{key_is}
-use Rattle.part_laws.specs.Touched.{is_among}
+use Rattle.entity_parts.specs.part_laws.Touched.{is_among}
 use Rattle.entity_index.specs.Changes.{AreIncoming, fresh_keys, parts_come, parts_then, replaced}
 use Rattle.entity_index.specs.Held.{HeldEntities, KeyedParts, at_key, held_at, parts_at}
 use Rattle.entity_index.specs.Lists.{Lists, no_lists}

@@ -12,7 +12,7 @@ use Rattle.rule_table.specs.Groups.{Each}
 use Rattle.rule_table.specs.GroupLaws.{each_append}
 use Rattle.rule_table.specs.Order.{same_key}
 use Rattle.engine_laws.proofs.Spots.{is_false, key_is, key_self, or_left, or_right}
-use Rattle.part_laws.specs.Touched.{is_among}
+use Rattle.entity_parts.specs.part_laws.Touched.{is_among}
 use Rattle.entity_index.specs.Changes.{emptied}
 use Rattle.entity_index.specs.Held.{HeldEntities, held_at, parts_at}
 use Rattle.entity_index.specs.Lists.{Lists, no_lists}

@@ -19,8 +19,8 @@ use Rattle.engine_laws.specs.Standings.{findings_of, renewed}
 use Rattle.engine_laws.proofs.Since.{findings-renewed}
 use Rattle.engine_laws.proofs.Sorted.{less_other}
 use Rattle.engine_laws.proofs.Spots.{is_false, key_is, key_self, or_left, or_right}
-use Rattle.standing_walks.specs.Walked.{IsInOrder}
-use Rattle.part_laws.specs.Touched.{is_among}
+use Rattle.entity_parts.specs.standing_walks.Walked.{IsInOrder}
+use Rattle.entity_parts.specs.part_laws.Touched.{is_among}
 use Rattle.entity_index.specs.Changes.{with_part}
 use Rattle.entity_index.specs.Held.{HeldEntities, entities_before, held_at, parts_at}
 use Rattle.entity_index.specs.Lists.{Lists, no_lists, list_of, with_list}
@@ -200,6 +200,36 @@ told_one part n find index key value old there held before after told k =
     between =
         ap (λ (xs : List Standing). told_between xs (renewed old n (find key value))) held
         ∙ ap (told_between (list_under index key part)) (list_is part n find index key value (renewed old n (find key value)) old there held refl)
+
+-- ---- nothing stood there, and nothing does
+pub none_in : {A : Type 0} (xs : List A) → (length xs == 0) ≡ true → xs ≡ []
+none_in [] h = refl
+none_in (x ∷ xs) h = let none : length (x ∷ xs) ≡ 0 = eqb-true (length (x ∷ xs)) 0 h in absurd (omega arith)
+
+-- the list of a number set to what it is
+set_self : (part : ℕ) (l : Lists) → with_list l part (list_of l part) ≡ l
+set_self zero l = refl
+set_self (suc zero) l = refl
+set_self (suc (suc zero)) l = refl
+set_self (suc (suc (suc n))) l = refl
+
+pub lists_stay : (part n : ℕ) (find : FindPart) (key : EntityKey) (index : List HeldEntities) → list_under index key part ≡ [] → list_renewed part n find index key ≡ [] →
+    (k : EntityKey) → lists_at index k ≡ (if same_key key k then renewed_under part n find index k else lists_at index k)
+lists_stay part n find key index was is k =
+    elim (same_key key k) as (λ b. same_key key k ≡ b → lists_at index k ≡ (if b then renewed_under part n find index k else lists_at index k)) [
+      | true ↦ λ e. subst (λ q. lists_at index q ≡ renewed_under part n find index q) (key_is key k e) (here (lists_at index key) refl)
+      | false ↦ λ e. refl
+    ] refl
+  where
+    new : Lists → Lists
+    new l = with_list l part (list_renewed part n find index key)
+
+    same : (l : Lists) → lists_at index key ≡ Some l → l ≡ new l
+    same l h = sym (ap (with_list l part) (is ∙ sym (sym (ap (λ o. list_of (unwrap_or o no_lists) part) h) ∙ was)) ∙ set_self part l)
+
+    here : (o : Option Lists) → lists_at index key ≡ o → lists_at index key ≡ renewed_under part n find index key
+    here None h = h ∙ sym (ap (option_map new) h)
+    here (Some l) h = h ∙ ap Some (same l h) ∙ sym (ap (option_map new) h)
 
 -- ---- the key at an index of keys in order
 module _ (keys : List EntityKey) (i : ℕ) (key : EntityKey) (l : i < length keys) (is : key ≡ get_or keys i key) where

@@ -8,7 +8,7 @@ use Rattle.rule_table.specs.Found.{Found}
 use Rattle.rule_history.specs.Answered.{payload_under}
 use Rattle.rule_history.specs.Standing.{Standing}
 use Rattle.engine_laws.specs.Standings.{renewed}
-use Rattle.part_laws.specs.Touched.{is_among}
+use Rattle.entity_parts.specs.part_laws.Touched.{is_among}
 use Rattle.entity_index.specs.Held.{HeldEntities, entities_before, held_at, parts_at}
 use Rattle.entity_index.specs.Lists.{Lists, no_lists, list_of, with_list}
 use Rattle.touched_entities.specs.Told.{AreTolds, FeedTold, Told, header_told, plus, told_at, told_between}

@@ -8,7 +8,7 @@ use Rattle.rule_table.specs.Groups.{Each}
 use Rattle.rule_table.specs.Order.{same_key}
 use Rattle.rule_history.specs.History.{entities_in}
 use Rattle.rule_history.specs.Answered.{payload_under}
-use Rattle.part_laws.specs.Touched.{is_among}
+use Rattle.entity_parts.specs.part_laws.Touched.{is_among}
 use Rattle.entity_index.specs.Held.{HeldEntities, held_at}
 use Rattle.entity_index.specs.declared.incoming.Incoming.{Incoming}
 use Rattle.touched_entities.specs.Again.{lists_at, lists_under}

@@ -1,3 +1,10 @@
+pub mod entity_index
+pub mod entity_parts
+pub mod judging
+pub mod message_rules
+pub mod part_laws
+pub mod schedule_rules
+pub mod standing_walks
 pub mod Told
 pub mod Again
 pub mod Left

@@ -5,7 +5,7 @@ use Rattle.rule_table.specs.declared.key.EntityKey.{EntityKey}
 use Rattle.rule_table.specs.Groups.{Each}
 use Rattle.rule_history.specs.Standing.{Standing, Spot, opened, closed}
 use Rattle.engine_laws.specs.Standings.{findings_of}
-use Rattle.part_laws.specs.FourParts.{spots_in_order, standings_in_order}
+use Rattle.entity_parts.specs.part_laws.FourParts.{spots_in_order, standings_in_order}
 use Rattle.entity_index.specs.Held.{at_key}
 use Rattle.entity_index.specs.Lists.{Lists}
 

@@ -5,18 +5,17 @@ ghost use Rattle.rule_table.specs.declared.key.EntityKey.{EntityKey as Key};
 ghost use Rattle.rule_table.specs.Order.{key_cmp, same_key};
 ghost use Rattle.rule_table.specs.Rises.{Rises};
 ghost use Rattle.engine_laws.specs.Standings.{renewed};
-ghost use Rattle.standing_walks.specs.Walked.{IsInOrder};
-ghost use Rattle.part_laws.specs.Touched.{is_among};
+ghost use Rattle.entity_parts.specs.standing_walks.Walked.{IsInOrder};
+ghost use Rattle.entity_parts.specs.part_laws.Touched.{is_among};
 ghost use Rattle.touched_entities.specs.Again.{AreSameFeeds, IsPassed, list_under, lists_at, payload_at, renewed_under, told_renewed};
 ghost use Rattle.touched_entities.specs.Told.{AreTolds, header_told, plus, told_at, told_between};
 
 use crate::tolds::Tolds;
 use entity_index::EntityIndex;
-use entity_parts::EntityPart;
+use entity_parts::{EntityPart, Standing, renew};
 use feed_values::{Entity, Items};
 use rt_outside::Steps;
 use rule_table::EntityKey;
-use standing_walks::{Standing, renew};
 use std::alloc::{AllocError, Global};
 use std::sync::ledger::Ledger;
 
@@ -88,7 +87,11 @@ fn judge_one<J: EntityPart, L: Ledger>(
         unreachable!();
     };
     let old = list_under(index, key, renewal.part);
+    let was_empty = old.is_empty();
     let list = renew_one(renewal, key, entity, old, tolds, tests)?;
+    if was_empty && list.as_slice().is_empty() {
+        return Ok(());
+    }
     index.set_part(key, renewal.part, list);
     Ok(())
 }

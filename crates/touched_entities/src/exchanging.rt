@@ -3,7 +3,7 @@ ghost use Rattle.std.specs.Prelude.{◌≡◌, ℕ, false, IfOk, map};
 ghost use Rattle.feed_values.specs.Views.{entity_value};
 ghost use Rattle.rule_table.specs.declared.key.EntityKey.{EntityKey as Key};
 ghost use Rattle.rule_table.specs.Groups.{Each};
-ghost use Rattle.part_laws.specs.Touched.{is_among};
+ghost use Rattle.entity_parts.specs.part_laws.Touched.{is_among};
 ghost use Rattle.entity_index.specs.Changes.{AreIncoming};
 ghost use Rattle.entity_index.specs.Held.{held_at};
 ghost use Rattle.touched_entities.specs.Again.{lists_under};

@@ -4,15 +4,15 @@ ghost use Rattle.std.specs.List.{flat_map};
 ghost use Rattle.rule_table.specs.Groups.{Each};
 ghost use Rattle.rule_table.specs.Order.{key_cmp};
 ghost use Rattle.rule_table.specs.Rises.{Rises};
-ghost use Rattle.standing_walks.specs.Changes.{all_opened, all_closed};
-ghost use Rattle.part_laws.specs.FourParts.{spots_in_order, standings_in_order};
+ghost use Rattle.entity_parts.specs.standing_walks.Changes.{all_opened, all_closed};
+ghost use Rattle.entity_parts.specs.part_laws.FourParts.{spots_in_order, standings_in_order};
 ghost use Rattle.touched_entities.specs.Told.{feed_closed, feed_opened};
 
 use crate::told::Told;
 use crate::tolds::{FeedTold, Tolds};
+use entity_parts::{Closed, Opened};
 use feed_values::Items;
 use rule_table::EntityKey;
-use standing_walks::{Closed, Opened};
 use std::alloc::AllocError;
 use std::collections::BTreeMap;
 

@@ -17,6 +17,13 @@ mod tolds;
 
 pub use again::{Renewal, judge_again};
 pub use coming::decode_fresh;
+pub use entity_index::{
+    Changes, EntitiesIter, EntityIndex, Incoming, Parts, PartsIter, fresh_are_there,
+};
+pub use entity_parts::{
+    BoundedPart, Closed, FourLists, HeaderRules, LocalPart, Opened, PairedPart, PartRules,
+    PeakedPart, Standing, renew,
+};
 pub use exchanging::exchange;
 pub use handing::hand_out;
 pub use leaving::close_gone;

@@ -3,9 +3,9 @@ ghost use Rattle.std.specs.Prelude.{◌≡◌, ◌++◌, IfOk, OnOk};
 ghost use Rattle.rule_table.specs.ByRule.{each_by_rule};
 ghost use Rattle.rule_table.specs.Table.{all_rules};
 
+use entity_parts::{Closed, Opened};
 use feed_values::Items;
 use rule_table::RuleId;
-use standing_walks::{Closed, Opened};
 use std::alloc::AllocError;
 
 /// What is of a rule.

@@ -1,13 +1,13 @@
 //! What opened and closed at one place.
 ghost use Rattle.std.specs.Prelude.{◌≡◌, ◌++◌, OnOk};
-ghost use Rattle.standing_walks.specs.Changes.{all_opened, all_closed};
-ghost use Rattle.standing_walks.specs.Walked.{IsInOrder};
-ghost use Rattle.part_laws.specs.FourParts.{spots_in_order, standings_in_order};
+ghost use Rattle.entity_parts.specs.standing_walks.Changes.{all_opened, all_closed};
+ghost use Rattle.entity_parts.specs.standing_walks.Walked.{IsInOrder};
+ghost use Rattle.entity_parts.specs.part_laws.FourParts.{spots_in_order, standings_in_order};
 ghost use Rattle.touched_entities.specs.Told.{no_told, plus, told_between};
 
 use crate::ordering::{append, rule_by_rule};
+use entity_parts::{Closed, Opened, Standing, put_closed, put_opened};
 use feed_values::Items;
-use standing_walks::{Closed, Opened, Standing, put_closed, put_opened};
 use std::alloc::{AllocError, Global};
 use std::marker::Model;
 
@@ -21,7 +21,7 @@ pub struct Told {
 
 impl Model for Told {
     ghost use Rattle.touched_entities.specs.Told as told;
-    ghost use Rattle.standing_walks.specs.Changes.{all_opened, all_closed};
+    ghost use Rattle.entity_parts.specs.standing_walks.Changes.{all_opened, all_closed};
 
     ghost Value = { told.Told };
 

@@ -85,11 +85,11 @@ none_gives rises (Some p) h = ap (λ r. has_rise r (vehicle_id_of (entity_of p))
     none None = refl
     none (Some v) = refl
 
--- one key more is looked at
-pub raised_more : (rises : RisesById) (key : EntityKey) (e : EntityKey × Value entity) (es left : KeyedValues) (new old all : Bool) → new ≡ (old || is_raised_at rises key e) → left ≡ e ∷ es
-    → (old || list_any (is_raised_at rises key) left) ≡ all → (new || list_any (is_raised_at rises key) es) ≡ all
-raised_more rises key e es left new old all n s h =
-    ap (λ b. b || list_any (is_raised_at rises key) es) n ∙ assoc old (is_raised_at rises key e) (list_any (is_raised_at rises key) es) ∙ ap (λ xs. old || list_any (is_raised_at rises key) xs) (sym s) ∙ h
+-- one entity more is looked at
+pub tested_more : (test : EntityKey × Value entity → Bool) (e : EntityKey × Value entity) (es left : KeyedValues) (new old all : Bool) → new ≡ (old || test e) → left ≡ e ∷ es → (old || list_any test left) ≡ all
+    → (new || list_any test es) ≡ all
+tested_more test e es left new old all n s h =
+    ap (λ b. b || list_any test es) n ∙ assoc old (test e) (list_any test es) ∙ ap (λ xs. old || list_any test xs) (sym s) ∙ h
   where
     assoc : (a b c : Bool) → ((a || b) || c) ≡ (a || (b || c))
     assoc true b c = refl

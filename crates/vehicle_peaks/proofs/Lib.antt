@@ -2,3 +2,4 @@ pub mod Peaks
 pub mod Raising
 pub mod KeySets
 pub mod Entities
+pub mod Beside

@@ -1,9 +1,11 @@
 //! The keys of the entities whose vehicle has a new peak.
-ghost use Rattle.std.specs.Prelude.{◌≡◌, ◌&&◌, ◌||◌, IfOk, OnOk, not};
+ghost use Rattle.std.specs.Prelude.{◌≡◌, ◌≤◌, ◌&&◌, ◌||◌, IfOk, OnOk, drop, length, not};
 ghost use Rattle.std.specs.BTreeSet.{contains};
 ghost use Rattle.std.specs.List.{list_any};
+ghost use Rattle.std.specs.declared.cmp.Ordering.TheVariants.{Less};
 ghost use Rattle.feed_values.specs.Views.{entity_value};
 ghost use Rattle.rule_table.specs.Order.{key_cmp, same_key};
+ghost use Rattle.rule_table.specs.Rises.{Rises as AreRising};
 ghost use Rattle.rule_table.specs.declared.key.EntityKey.{EntityKey as Key};
 ghost use Rattle.rule_table.specs.Peaks.{vehicle_id_of};
 ghost use Rattle.history_rules.specs.HeldPeaks.{ids_seen};
@@ -15,6 +17,7 @@ use entity_index::EntityIndex;
 use feed_values::Entity;
 use rule_table::EntityKey;
 use std::alloc::{AllocError, Global};
+use std::cmp::Ordering;
 use std::collections::{BTreeMap, BTreeSet};
 
 /// Whether the vehicle of an entity has a new peak.
@@ -42,21 +45,74 @@ fn put_if(
     Ok(())
 }
 
-/// The keys of the feed's entities whose vehicle has a new peak.
+/// Whether a key is one of some keys, and the place from which on a greater one is looked for.
+#[derive(Clone, Copy)]
+struct Met {
+    is_there: bool,
+    at: usize,
+}
+
+/// Goes on in keys in order, from a place, to what isn't below a key.
+fn meet(keys: &[EntityKey], from: usize, key: &EntityKey) -> Met
+    requires within { from ≤ length keys.now }
+    requires ordered { AreRising key_cmp keys.now }
+    ensures within { result.at ≤ length keys.now }
+    ensures met { result.is_there ≡ list_any (same_key key.now) (drop from keys.now) }
+    ensures greater { (k : Key) → key_cmp key.now k ≡ Less → list_any (same_key k) (drop result.at keys.now) ≡ list_any (same_key k) (drop from keys.now) }
+{
+    for i in from..keys.len() {
+        match keys[i].cmp(key) {
+            Ordering::Less => {}
+            Ordering::Equal => {
+                return Met {
+                    is_there: true,
+                    at: i,
+                };
+            }
+            Ordering::Greater => {
+                return Met {
+                    is_there: false,
+                    at: i,
+                };
+            }
+        }
+    }
+    Met {
+        is_there: false,
+        at: keys.len(),
+    }
+}
+
+/// Whether an entity isn't fresh, and its vehicle has a new peak.
+fn is_raised(stamps: &BTreeMap<String, u64>, entity: &Entity, is_fresh: bool) -> bool
+    ensures { result ≡ (not is_fresh && has_rise (ids_seen stamps.now) (vehicle_id_of (entity_value entity.now))) }
+{
+    if is_fresh {
+        return false;
+    }
+    has_rise(stamps, entity)
+}
+
+/// The keys of the feed's entities whose vehicle has a new peak, but for some in order that are fresh.
 pub(crate) fn raised_keys(
     alloc: Global,
     stamps: &BTreeMap<String, u64>,
     index: &EntityIndex,
     feed: u8,
+    fresh: &[EntityKey],
 ) -> Result<BTreeSet<EntityKey>, AllocError>
-    ensures { IfOk result (λ keys. (key : Key) → contains key_cmp keys key ≡ gives_rise (ids_seen stamps.now) (payload_in index.now feed key)) }
+    requires { AreRising key_cmp fresh.now }
+    ensures { IfOk result (λ keys. (key : Key) → contains key_cmp keys key ≡ (not (list_any (same_key key) fresh.now) && gives_rise (ids_seen stamps.now) (payload_in index.now feed key))) }
 {
     let mut keys = BTreeSet::new(alloc);
     if stamps.is_empty() {
         return Ok(keys);
     }
+    let mut at = 0;
     for (key, entity) in index.entities(feed) {
-        let there = has_rise(stamps, entity);
+        let met = meet(fresh, at, key);
+        at = met.at;
+        let there = is_raised(stamps, entity, met.is_there);
         put_if(alloc, &mut keys, key, there)?;
     }
     Ok(keys)

@@ -3,6 +3,7 @@ ghost use Rattle.std.specs.Prelude.{◌≡◌, ◌&&◌, ℕ, List, IfOk, not};
 ghost use Rattle.std.specs.List.{list_any};
 ghost use Rattle.std.specs.List.Sorted.{IsStrictlySortedBy};
 ghost use Rattle.rule_table.specs.Order.{key_cmp, same_key};
+ghost use Rattle.rule_table.specs.Rises.{Rises as AreRising};
 ghost use Rattle.rule_table.specs.declared.key.EntityKey.{EntityKey as Key};
 ghost use Rattle.history_rules.specs.HeldPeaks.{peak_of, ids_seen};
 ghost use Rattle.entity_index.specs.Held.{entities_before, held_at};
@@ -66,18 +67,22 @@ impl Rises {
         raise_all(&self.stamps, peaks, feed)
     }
 
-    /// The keys of the feed's entities whose vehicle is one of these, but for those that are gone.
+    /// The keys of the feed's entities whose vehicle is one of these, but for those that are gone, and for those, in order, that are judged again anyway
+    /// since they are fresh.
     pub fn keys(
         &self,
         alloc: Global,
         index: &EntityIndex,
         feed: u8,
         gone: &[EntityKey],
+        fresh: &[EntityKey],
     ) -> Result<Items<EntityKey>, AllocError>
-        ensures among { IfOk result (λ keys. (key : Key) → list_any (same_key key) keys ≡ (not (list_any (same_key key) gone.now) && gives_rise self.now (payload_in index.now feed key))) }
+        requires { AreRising key_cmp fresh.now }
+        ensures among { IfOk result (λ keys. (key : Key) → list_any (same_key key) keys
+            ≡ (not (list_any (same_key key) gone.now) && (not (list_any (same_key key) fresh.now) && gives_rise self.now (payload_in index.now feed key)))) }
         ensures ordered { IfOk result (λ keys. IsStrictlySortedBy key_cmp keys) }
     {
-        let mut keys = raised_keys(alloc, &self.stamps, index, feed)?;
+        let mut keys = raised_keys(alloc, &self.stamps, index, feed, fresh)?;
         take_out(&mut keys, gone);
         let found = keys_in_order(alloc, keys)?;
         Ok(found)

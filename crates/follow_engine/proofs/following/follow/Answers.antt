@@ -1,14 +1,14 @@
 use Rattle.std.proofs.Common.{◌∙◌, ◌+◌, ◌≤◌, ap, sym, subst}
 use Rattle.rule_history.specs.Answered.{tables_of}
 use Rattle.engine_laws.specs.Delta.{tested_held}
-use Rattle.cached_laws.specs.State.{State, feed_of}
-use Rattle.cached_laws.specs.Cached.{AreCached}
-use Rattle.cached_laws.proofs.Counts.{fresh_size}
-use Rattle.held_feeds.specs.States.{state_of}
-use Rattle.snapshot_steps.specs.Taken.{snapshot_of}
+use Rattle.exchanged_timetables.specs.cached_laws.State.{State, feed_of}
+use Rattle.exchanged_timetables.specs.cached_laws.Cached.{AreCached}
+use Rattle.exchanged_timetables.specs.cached_laws.CountsProofs.{fresh_size}
+use Rattle.exchanged_timetables.specs.held_feeds.States.{state_of}
+use Rattle.exchanged_timetables.specs.snapshot_steps.Taken.{snapshot_of}
 use Rattle.follow_engine.specs.Deltas.{delta_value}
 use Rattle.follow_engine.specs.Followed.{IsFollowed, tests_owed}
-use Rattle.cached_laws.specs.Keys.{lasts_then}
+use Rattle.exchanged_timetables.specs.cached_laws.Keys.{lasts_then}
 use Rattle.follow_engine.proofs.Held.{same_entities}
 use Rattle.follow_engine.proofs.Owed.{ticks_are}
 use Rattle.follow_engine.proofs.following.follow.Goals as goal

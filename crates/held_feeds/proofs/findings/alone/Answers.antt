@@ -1,6 +1,6 @@
 use Rattle.std.proofs.Common.{◌≡◌, ◌∙◌, List, [], ◌∷◌, ap, refl}
 use Rattle.rule_history.specs.Standing.{Standing}
-use Rattle.standing_walks.specs.Merged.{merged}
+use Rattle.cached_laws.specs.standing_walks.Merged.{merged}
 use Rattle.held_feeds.proofs.findings.alone.Goals as goal
 
 merged_none : (xs : List Standing) → merged xs [] ≡ xs

@@ -3,12 +3,12 @@ use Rattle.rule_table.specs.declared.kind.Kind.TheVariants.{TripUpdate, Vehicle}
 use Rattle.rule_table.specs.declared.key.EntityKey.{EntityKey}
 use Rattle.rule_table.specs.Pairs.{is_of}
 use Rattle.engine_laws.specs.HeldFeeds.{rows_held}
-use Rattle.entity_index.specs.declared.incoming.Incoming.{Incoming}
-use Rattle.row_changes.specs.Held.{AreReplaced, entity_at}
-use Rattle.row_changes.proofs.Alike.{those}
-use Rattle.row_changes.proofs.Members.{any-members}
-use Rattle.cached_laws.specs.State.{feed_of}
-use Rattle.cached_laws.specs.Keys.{lasts_then}
+use Rattle.held_feeds.specs.entity_index.Incoming.{Incoming}
+use Rattle.held_feeds.specs.row_changes.Held.{AreReplaced, entity_at}
+use Rattle.held_feeds.specs.row_changes.AlikeProofs.{those}
+use Rattle.held_feeds.specs.row_changes.MembersProofs.{any-members}
+use Rattle.held_feeds.specs.cached_laws.State.{feed_of}
+use Rattle.held_feeds.specs.cached_laws.Keys.{lasts_then}
 use Rattle.held_feeds.specs.States.{state_of}
 use Rattle.snapshot_steps.specs.Taken.{snapshot_of}
 use Rattle.snapshot_steps.proofs.Replaced.{all_moved}

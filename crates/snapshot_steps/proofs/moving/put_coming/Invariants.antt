@@ -1,7 +1,7 @@
 use Rattle.std.proofs.Common.{◌≤◌, length, map, take}
-use Rattle.row_changes.specs.Held.{AreReplaced, entity_at}
-use Rattle.cached_laws.specs.State.{feed_of}
-use Rattle.cached_laws.specs.Keys.{lasts_then}
+use Rattle.held_feeds.specs.row_changes.Held.{AreReplaced, entity_at}
+use Rattle.held_feeds.specs.cached_laws.State.{feed_of}
+use Rattle.held_feeds.specs.cached_laws.Keys.{lasts_then}
 use Rattle.held_feeds.specs.States.{state_of}
 use Rattle.snapshot_steps.specs.Taken.{snapshot_of}
 use Rattle.snapshot_steps.proofs.moving.put_coming.Given as goal

@@ -3,13 +3,13 @@ use Rattle.std.specs.Prelude.{option_map, option_copied}
 use Rattle.std.proofs.lemmas.List.{take_more}
 use Rattle.feed_values.specs.Views.{entity_value}
 use Rattle.rule_table.specs.declared.key.EntityKey.{EntityKey}
-use Rattle.entity_index.specs.declared.incoming.Incoming.{Incoming}
-use Rattle.row_changes.specs.Held.{AreReplaced, entity_at, is_done}
-use Rattle.row_changes.specs.Updated.{AreNoted, IsUpdated}
-use Rattle.row_changes.proofs.Replaced.{update}
-use Rattle.cached_laws.specs.State.{feed_of}
-use Rattle.cached_laws.specs.Keys.{lasts_then}
-use Rattle.cached_laws.proofs.Bounds.{entity_was}
+use Rattle.held_feeds.specs.entity_index.Incoming.{Incoming}
+use Rattle.held_feeds.specs.row_changes.Held.{AreReplaced, entity_at, is_done}
+use Rattle.held_feeds.specs.row_changes.Updated.{AreNoted, IsUpdated}
+use Rattle.held_feeds.specs.row_changes.ReplacedProofs.{update}
+use Rattle.held_feeds.specs.cached_laws.State.{feed_of}
+use Rattle.held_feeds.specs.cached_laws.Keys.{lasts_then}
+use Rattle.held_feeds.specs.cached_laws.BoundsProofs.{entity_was}
 use Rattle.held_feeds.specs.States.{state_of}
 use Rattle.snapshot_steps.specs.Taken.{snapshot_of}
 use Rattle.snapshot_steps.proofs.Replaced.{among_index, gone, gone_new, gone_once}

@@ -3,10 +3,10 @@ use Rattle.feed_values.specs.Views.{natural}
 use Rattle.rule_table.specs.declared.key.EntityKey.{EntityKey}
 use Rattle.rule_history.specs.Answered.{tables_of}
 use Rattle.rule_history.specs.Standing.{Standing}
-use Rattle.standing_walks.specs.Walked.{IsInOrder}
+use Rattle.held_feeds.specs.standing_walks.Walked.{IsInOrder}
 use Rattle.history_rules.specs.HeldPeaks.{peak_of}
-use Rattle.entity_parts.specs.Found.{bounded_found, local_found, paired_found, peaked_found}
-use Rattle.touched_entities.specs.Again.{IsPassed}
+use Rattle.held_feeds.specs.entity_parts.Found.{bounded_found, local_found, paired_found, peaked_found}
+use Rattle.held_feeds.specs.touched_entities.Again.{IsPassed}
 use Rattle.snapshot_steps.proofs.Keys.{other_part}
 use Rattle.snapshot_steps.proofs.parts.judge_parts.Goals as goal
 

@@ -3,8 +3,8 @@ use Rattle.rule_table.specs.Answers.{Gathered}
 use Rattle.rule_table.specs.Peaks.{no_peaks}
 use Rattle.std.specs.Prelude.{option_map}
 use Rattle.feed_values.specs.Views.{feed_header_value}
-use Rattle.judging.specs.Whole as whole
-use Rattle.cached_laws.specs.State.{feed_of, header_at}
+use Rattle.held_feeds.specs.judging.Whole as whole
+use Rattle.held_feeds.specs.cached_laws.State.{feed_of, header_at}
 use Rattle.held_feeds.specs.States.{state_of}
 use Rattle.snapshot_steps.specs.Taken.{snapshot_of}
 use Rattle.snapshot_steps.proofs.Headed.{differ_is, head_is, if_ok, previous_is}

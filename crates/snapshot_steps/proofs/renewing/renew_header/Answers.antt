@@ -2,7 +2,7 @@ use Rattle.std.proofs.Common.{List, sym, subst}
 use Rattle.rule_table.specs.Found.{Found}
 use Rattle.engine_laws.specs.Order.{found_cmp, Rises}
 use Rattle.engine_laws.proofs.Ascending.{head_ascends}
-use Rattle.cached_laws.specs.State.{feed_of}
+use Rattle.held_feeds.specs.cached_laws.State.{feed_of}
 use Rattle.held_feeds.specs.States.{state_of}
 use Rattle.snapshot_steps.specs.Taken.{snapshot_of}
 use Rattle.snapshot_steps.proofs.renewing.renew_header.Goals as goal

@@ -2,8 +2,8 @@ use Rattle.std.proofs.Common.{◌∙◌, ◌+◌, drop}
 use Rattle.std.specs.BTreeSet.{contains}
 use Rattle.rule_table.specs.Order.{key_cmp, same_key}
 use Rattle.pairing_rules.proofs.SharedKeys.{key-put}
-use Rattle.row_changes.proofs.Lists.{one-less}
-use Rattle.touched_entities.proofs.OneMore.{key_first}
+use Rattle.held_feeds.specs.row_changes.ListsProofs.{one-less}
+use Rattle.held_feeds.specs.touched_entities.OneMoreProofs.{key_first}
 use Rattle.snapshot_steps.proofs.touching.put_copies.Goals as goal
 
 pub loop-key-preserved : goal.loop-key-preserved

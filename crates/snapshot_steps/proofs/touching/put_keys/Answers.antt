@@ -4,7 +4,7 @@ use Rattle.std.specs.List.{list_any}
 use Rattle.std.specs.Vec.Iter.{into_iter_items}
 use Rattle.rule_table.specs.Order.{key_cmp, same_key}
 use Rattle.pairing_rules.proofs.SharedKeys.{key-put}
-use Rattle.row_changes.proofs.Lists.{one-less, or-none}
+use Rattle.held_feeds.specs.row_changes.ListsProofs.{one-less, or-none}
 use Rattle.snapshot_steps.proofs.touching.put_keys.Goals as goal
 
 nothing_left : {X : Type 0} (l : List X) → length l ≡ 0 → l ≡ []

@@ -3,14 +3,14 @@ use Rattle.std.specs.Prelude.{Option, ℤ}
 use Rattle.feed_values.specs.Snapshot.{timestamp_of}
 use Rattle.feed_values.specs.Views.{feed_header_value}
 use Rattle.rule_history.specs.Answered.{tables_of}
-use Rattle.row_changes.proofs.Alike.{alike}
-use Rattle.cached_laws.specs.State.{feed_of}
-use Rattle.cached_laws.specs.Keys.{lasts_then}
-use Rattle.cached_laws.specs.Judged.{ArePassed}
-use Rattle.cached_laws.specs.Laws.{IsAtHand}
-use Rattle.cached_laws.proofs.Passable.{can_pass}
-use Rattle.cached_laws.proofs.Proved.{judged_is_change, judged_is_owed}
-use Rattle.held_feeds.specs.States.{state_of}
+use Rattle.snapshot_steps.specs.row_changes.AlikeProofs.{alike}
+use Rattle.snapshot_steps.specs.cached_laws.State.{feed_of}
+use Rattle.snapshot_steps.specs.cached_laws.Keys.{lasts_then}
+use Rattle.snapshot_steps.specs.cached_laws.Judged.{ArePassed}
+use Rattle.snapshot_steps.specs.cached_laws.Laws.{IsAtHand}
+use Rattle.snapshot_steps.specs.cached_laws.PassableProofs.{can_pass}
+use Rattle.snapshot_steps.specs.cached_laws.ProvedProofs.{judged_is_change, judged_is_owed}
+use Rattle.snapshot_steps.specs.held_feeds.States.{state_of}
 use Rattle.snapshot_steps.specs.Taken.{snapshot_of}
 use Rattle.history_rules.specs.HeldPeaks.{peak_of}
 use Rattle.snapshot_steps.proofs.Replaced.{own_then}

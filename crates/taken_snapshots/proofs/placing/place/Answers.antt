@@ -1,9 +1,9 @@
 use Rattle.std.proofs.Common.{◌∙◌, List, ap}
 use Rattle.rule_history.specs.Answered.{tables_of}
 use Rattle.rule_history.specs.Standing.{Standing}
-use Rattle.cached_laws.specs.State.{HeldHeader, feed_of}
-use Rattle.cached_laws.proofs.Passable.{in_order_held}
-use Rattle.held_feeds.specs.States.{state_of}
+use Rattle.snapshot_steps.specs.cached_laws.State.{HeldHeader, feed_of}
+use Rattle.snapshot_steps.specs.cached_laws.PassableProofs.{in_order_held}
+use Rattle.snapshot_steps.specs.held_feeds.States.{state_of}
 use Rattle.snapshot_steps.specs.Taken.{snapshot_of}
 use Rattle.snapshot_steps.proofs.Raised.{peaks_then}
 use Rattle.taken_snapshots.proofs.placing.place.Goals as goal

@@ -2,8 +2,8 @@ use Rattle.std.proofs.Common.{◌∙◌, List, sym, subst}
 use Rattle.rule_table.specs.declared.key.EntityKey.{EntityKey}
 use Rattle.rule_table.specs.Order.{key_cmp}
 use Rattle.rule_table.specs.Rises.{Rises}
-use Rattle.cached_laws.specs.Keys.{bytes_before}
-use Rattle.held_feeds.specs.States.{state_of}
+use Rattle.snapshot_steps.specs.cached_laws.Keys.{bytes_before}
+use Rattle.snapshot_steps.specs.held_feeds.States.{state_of}
 use Rattle.snapshot_steps.proofs.Replaced.{gone_rise}
 use Rattle.taken_snapshots.proofs.telling.tell_first.Goals as goal
 

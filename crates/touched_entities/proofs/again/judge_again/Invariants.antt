@@ -2,7 +2,7 @@ use Rattle.std.proofs.Common.{◌≡◌, ℕ, ◌+◌, ◌*◌, ◌≤◌, drop,
 use Rattle.rule_table.specs.declared.key.EntityKey.{EntityKey}
 use Rattle.rule_table.specs.Order.{key_cmp}
 use Rattle.rule_table.specs.Rises.{Rises}
-use Rattle.standing_walks.specs.Walked.{IsInOrder}
+use Rattle.entity_parts.specs.standing_walks.Walked.{IsInOrder}
 use Rattle.touched_entities.specs.Again.{AreSameFeeds, list_under, lists_then, told_then}
 use Rattle.touched_entities.specs.Told.{AreTolds, header_told}
 use Rattle.touched_entities.proofs.again.judge_again.Given as goal

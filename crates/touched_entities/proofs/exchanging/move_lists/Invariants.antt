@@ -2,7 +2,7 @@ use Rattle.std.proofs.Common.{◌≡◌, ◌++◌, ℕ, map, false, true}
 use Rattle.std.specs.Prelude.{◌==◌}
 use Rattle.rule_table.specs.declared.key.EntityKey.{EntityKey}
 use Rattle.rule_table.specs.Groups.{Each}
-use Rattle.part_laws.specs.Touched.{is_among}
+use Rattle.entity_parts.specs.part_laws.Touched.{is_among}
 use Rattle.entity_index.specs.Held.{held_at}
 use Rattle.touched_entities.specs.Again.{lists_under}
 use Rattle.touched_entities.specs.Exchanged.{AreDistinct, values_of}

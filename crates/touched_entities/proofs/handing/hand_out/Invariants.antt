@@ -3,7 +3,7 @@ use Rattle.std.specs.List.{flat_map}
 use Rattle.rule_table.specs.Groups.{Each}
 use Rattle.rule_table.specs.Order.{key_cmp}
 use Rattle.rule_table.specs.Rises.{Rises}
-use Rattle.standing_walks.specs.Changes.{all_opened, all_closed}
+use Rattle.entity_parts.specs.standing_walks.Changes.{all_opened, all_closed}
 use Rattle.touched_entities.specs.Told.{feed_closed, feed_opened}
 use Rattle.touched_entities.proofs.handing.hand_out.Given as goal
 

@@ -1,7 +1,7 @@
 use Rattle.std.proofs.Common.{◌≡◌, ◌++◌}
 use Rattle.std.specs.List.{flat_map}
-use Rattle.standing_walks.specs.Changes.{all_opened, all_closed}
-use Rattle.part_laws.specs.FourParts.{spots_in_order, standings_in_order}
+use Rattle.entity_parts.specs.standing_walks.Changes.{all_opened, all_closed}
+use Rattle.entity_parts.specs.part_laws.FourParts.{spots_in_order, standings_in_order}
 use Rattle.touched_entities.proofs.handing.hand_out_entities.Given as goal
 
 abbrev pub invariant-loop-told : goal.invariant-loop-told

@@ -1,6 +1,6 @@
 use Rattle.std.proofs.Common.{◌≡◌, ◌∙◌, ◌+◌, ap, sym, drop}
 use Rattle.std.specs.Prelude.{if◌then◌else◌}
-use Rattle.part_laws.specs.Touched.{is_among}
+use Rattle.entity_parts.specs.part_laws.Touched.{is_among}
 use Rattle.touched_entities.specs.Left.{told_left}
 use Rattle.touched_entities.specs.Told.{told_at}
 use Rattle.touched_entities.proofs.Closing.{left_step}

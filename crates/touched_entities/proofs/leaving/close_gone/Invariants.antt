@@ -3,7 +3,7 @@ use Rattle.std.specs.Prelude.{if◌then◌else◌}
 use Rattle.rule_table.specs.declared.key.EntityKey.{EntityKey}
 use Rattle.rule_table.specs.Order.{key_cmp}
 use Rattle.rule_table.specs.Rises.{Rises}
-use Rattle.part_laws.specs.Touched.{is_among}
+use Rattle.entity_parts.specs.part_laws.Touched.{is_among}
 use Rattle.touched_entities.specs.Left.{told_left}
 use Rattle.touched_entities.specs.Told.{AreTolds, header_told, told_at}
 use Rattle.touched_entities.proofs.leaving.close_gone.Given as goal

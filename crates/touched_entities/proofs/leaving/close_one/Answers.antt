@@ -1,6 +1,6 @@
 use Rattle.std.proofs.Common.{List, sym, subst}
 use Rattle.rule_history.specs.Standing.{Standing}
-use Rattle.standing_walks.specs.Walked.{IsInOrder}
+use Rattle.entity_parts.specs.standing_walks.Walked.{IsInOrder}
 use Rattle.touched_entities.proofs.Closing.{left_is}
 use Rattle.touched_entities.proofs.leaving.close_one.Goals as goal
 

@@ -2,7 +2,7 @@ use Rattle.std.proofs.Common.{ap, ◌∙◌, rules}
 use Rattle.std.proofs.lemmas.List.Sorted.{answers_always, IsNonDecreasingBy-from_sort_by_key}
 use Rattle.rule_table.specs.ByRule.{each_by_rule}
 use Rattle.rule_table.specs.Table.{all_rules}
-use Rattle.judging.proofs.ByRule.{number, sorted_is}
+use Rattle.entity_parts.specs.judging.ByRuleProofs.{number, sorted_is}
 use Rattle.touched_entities.proofs.ordering.rule_by_rule.Goals as goal
 
 pub returns : goal.returns

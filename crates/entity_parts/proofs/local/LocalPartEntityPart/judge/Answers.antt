@@ -2,8 +2,8 @@ use Rattle.std.proofs.Common.{◌++◌, ap, ◌∙◌, arith}
 use Rattle.feed_values.specs.Views.{entity_value}
 use Rattle.rule_history.specs.Answered.{tables_of, local_answer}
 use Rattle.rule_table.specs.Judged.{found_all}
-use Rattle.message_rules.specs.Message.{message_rules}
-use Rattle.schedule_rules.specs.Schedule.{schedule_rules, schedule_count}
+use Rattle.judging.specs.message_rules.Message.{message_rules}
+use Rattle.judging.specs.schedule_rules.Schedule.{schedule_rules, schedule_count}
 use Rattle.judging.specs.Ruled.{in_rule_order}
 use Rattle.entity_parts.proofs.local.LocalPartEntityPart.judge.Goals as goal
 

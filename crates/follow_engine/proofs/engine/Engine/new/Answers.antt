@@ -1,5 +1,5 @@
 use Rattle.rule_history.specs.Answered.{tables_of}
-use Rattle.cached_laws.specs.State.{State}
+use Rattle.exchanged_timetables.specs.cached_laws.State.{State}
 use Rattle.follow_engine.proofs.Lasts.{nothing_at, nothing_then}
 use Rattle.follow_engine.proofs.engine.Engine.new.Goals as goal
 

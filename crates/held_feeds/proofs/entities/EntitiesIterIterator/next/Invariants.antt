@@ -1,6 +1,6 @@
 use Rattle.std.proofs.Common.{length}
 use Rattle.std.specs.List.{flat_map}
-use Rattle.entity_index.specs.Handed.{listed}
+use Rattle.cached_laws.specs.entity_index.Handed.{listed}
 use Rattle.held_feeds.specs.Entities.{Left, entities_said}
 use Rattle.held_feeds.proofs.entities.EntitiesIterIterator.next.Given as goal
 

@@ -12,7 +12,8 @@ invariant_of-held c =
     let trips = c.into_numbered-trips.result in
     let stop_times = c.args.loaded.1.1.1.1.0 in
     rw facts.0 (record {
-      have_stops = c.requires;
+      have_stops = c.requires.stops;
+      stops_differ = c.requires.differ;
       knows_twice = known (λ found. KnowsTwice trips stop_times found.0.items) _ _ c.found_by_number-found.ensures.twice facts.1;
       knows_kinds = known (λ found. KnowsKinds c.args.loaded.1.0 stop_times.stops found.1.items) _ _ c.found_by_number-found.ensures.kinds facts.1;
     })

@@ -2,12 +2,12 @@ use Rattle.std.proofs.Common.{◌++◌, ap, ◌∙◌, sym, refl}
 use Rattle.std.proofs.lemmas.List.{map-append}
 use Rattle.rule_table.specs.ByRule.{each_by_rule}
 use Rattle.rule_table.specs.Table.{all_rules}
-use Rattle.standing_walks.specs.Changes.{all_opened, all_closed, opened_value, closed_value}
-use Rattle.standing_walks.specs.declared.changes.Opened.{Opened}
-use Rattle.standing_walks.specs.declared.changes.Closed.{Closed}
+use Rattle.entity_parts.specs.standing_walks.Changes.{all_opened, all_closed, opened_value, closed_value}
+use Rattle.entity_parts.specs.standing_walks.Opened.{Opened}
+use Rattle.entity_parts.specs.standing_walks.Closed.{Closed}
 use Rattle.rule_history.specs.Standing.{Standing, Spot}
-use Rattle.part_laws.specs.FourParts.{spots_in_order, standings_in_order}
-use Rattle.part_laws.proofs.ByRule.{mapped-ruled}
+use Rattle.entity_parts.specs.part_laws.FourParts.{spots_in_order, standings_in_order}
+use Rattle.entity_parts.specs.part_laws.ByRuleProofs.{mapped-ruled}
 use Rattle.touched_entities.specs.Told.{Told}
 use Rattle.touched_entities.proofs.told.Told.hand_out_by_rule.Goals as goal
 

@@ -1,0 +1,2 @@
+-- What `judging` says, for the crates above.
+pub use Rattle.touched_entities.specs.judging.Whole

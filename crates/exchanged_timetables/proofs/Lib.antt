@@ -1,0 +1,5 @@
+pub mod History
+pub mod Named
+pub mod Held
+pub mod Owed
+pub mod Opening

@@ -1,0 +1,12 @@
+pub mod cached_laws
+pub mod entity_index
+pub mod entity_parts
+pub mod held_feeds
+pub mod row_changes
+pub mod snapshot_steps
+pub mod standing_walks
+pub mod touched_entities
+pub mod Touched
+pub mod Exchange
+pub mod Retabled
+pub mod Laws

@@ -1,0 +1,2 @@
+-- What `judging` says, for the crates above.
+pub use Rattle.cached_laws.specs.judging.Whole

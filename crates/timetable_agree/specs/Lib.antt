@@ -1,0 +1,5 @@
+pub mod Named
+pub mod Alike
+pub mod Agree
+pub mod Compared
+pub mod Laws

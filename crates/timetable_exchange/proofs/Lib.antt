@@ -1,0 +1,4 @@
+pub mod Picked
+pub mod Taken
+pub mod Alike
+pub mod Counted
