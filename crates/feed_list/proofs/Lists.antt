@@ -1,6 +1,6 @@
 -- Rows of a list, one after the other.
 use Rattle.std.proofs.Common.{◌≡◌, ◌≤◌, ◌<◌, ◌+◌, ℕ, suc, Bool, true, false, cond, List, [], ◌∷◌, ◌++◌, append_assoc, append-nil, length, Option, Some, None, Result, Ok, Err, refl, sym, ap, subst, ◌∙◌, arith, nat_lt}
-use Rattle.std.specs.Prelude.{option_and_then, IfOk}
+use Rattle.std.specs.Prelude.{option_and_then, IfOk, bytes_eq}
 use Rattle.std.specs.List.{AllByRecursion}
 use Rattle.std.proofs.lemmas.Bool.Decides.{nat_tests}
 use Rattle.csv_records.specs.Results.{ok_or, then_with}
@@ -9,8 +9,9 @@ use Rattle.feed_list.specs.declared.column.Column.TheVariants.{Feed, Moment}
 use Rattle.feed_list.specs.declared.fault.ListFault.{ListFault}
 use Rattle.feed_list.specs.declared.fault.ListFault.TheVariants.{BadValue, NotThreeFields, TooLarge}
 use Rattle.feed_list.specs.declared.row.ListRow.{ListRow}
-use Rattle.feed_list.specs.Lists.{IsWithinLimits, list_of, row_limit, rows_from, with_front}
-use Rattle.feed_list.specs.Rows.{Fields, fields_in, path_in, row_of, text_in, value_in}
+use Rattle.feed_list.specs.declared.row.ListRow.TheVariants.{Snapshot, Timetable}
+use Rattle.feed_list.specs.Lists.{HasFeedWithin, IsWithinLimits, list_of, row_limit, rows_from, with_front}
+use Rattle.feed_list.specs.Rows.{Fields, empty_of, fields_in, path_in, row_of, snapshot_of, text_in, timetable_of, timetable_word, value_in}
 use Rattle.feed_list.specs.Values.{below, feed_of, number_of}
 
 -- ---- rows that are read
@@ -74,35 +75,42 @@ feed_small : (r : Result (List ℕ) ListFault) (e : ListFault) → IfOk (then_wi
 feed_small (Ok text) e = small_or (feed_of text) e (feed_below (number_of text))
 feed_small (Err x) e = tt
 
-abbrev feed_of_row : Result ListRow ListFault → ℕ
-feed_of_row (Ok row) = row.feed
-feed_of_row (Err fault) = 0
+ok_row : (row found : ListRow) → HasFeedWithin row → (let r : Result ListRow ListFault = Ok row in r ≡ Ok found) → HasFeedWithin found
+ok_row row found has e = let same : row ≡ found = cc in subst HasFeedWithin same has
 
 from_values : (a b : Result ℕ ListFault) (c : Result (List ℕ) ListFault) (row : ListRow) → IfOk a (λ n. n < 16)
-    → then_with a (λ feed. then_with b (λ moment. then_with c (λ path. Ok (record { feed = feed; moment = moment; path = path })))) ≡ Ok row → row.feed < 16
+    → then_with a (λ feed. then_with b (λ moment. then_with c (λ path. Ok (Snapshot (record { feed = feed; moment = moment; path = path }))))) ≡ Ok row → HasFeedWithin row
 from_values (Err x) b c row small e = absurd cc
 from_values (Ok n) (Err x) c row small e = absurd cc
 from_values (Ok n) (Ok m) (Err x) row small e = absurd cc
-from_values (Ok n) (Ok m) (Ok p) row small e = subst (λ k. k < 16) (ap feed_of_row e) small
+from_values (Ok n) (Ok m) (Ok p) row small e = ok_row (Snapshot (record { feed = n; moment = m; path = p })) row small e
+
+snapshot_feed : (number : ℕ) (f : Fields) (row : ListRow) → snapshot_of number f ≡ Ok row → HasFeedWithin row
+snapshot_feed number f row e =
+    from_values (value_in feed_of number Feed f.feed) (value_in number_of number Moment f.moment) (path_in number f.path) row (feed_small (text_in number Feed f.feed) (BadValue number Feed)) e
+
+from_folder : (a b : Result (List ℕ) ListFault) (row : ListRow) → then_with a (λ empty. then_with b (λ folder. Ok (Timetable folder))) ≡ Ok row → HasFeedWithin row
+from_folder (Err x) b row e = absurd cc
+from_folder (Ok n) (Err x) row e = absurd cc
+from_folder (Ok n) (Ok p) row e = ok_row (Timetable p) row tt e
+
+by_word : (number : ℕ) (f : Fields) (b : Bool) (row : ListRow) → cond b (timetable_of number f) (snapshot_of number f) ≡ Ok row → HasFeedWithin row
+by_word number f true row e = from_folder (value_in empty_of number Moment f.moment) (path_in number f.path) row e
+by_word number f false row e = snapshot_feed number f row e
 
 from_fields : (number : ℕ) (r : Result Fields ListFault) (row : ListRow)
-    → then_with r (λ fields.
-    then_with (value_in feed_of number Feed fields.feed) (λ feed.
-    then_with (value_in number_of number Moment fields.moment) (λ moment.
-    then_with (path_in number fields.path) (λ path.
-    Ok (record { feed = feed; moment = moment; path = path }))))) ≡ Ok row → row.feed < 16
-from_fields number (Ok f) row e =
-    from_values (value_in feed_of number Feed f.feed) (value_in number_of number Moment f.moment) (path_in number f.path) row (feed_small (text_in number Feed f.feed) (BadValue number Feed)) e
+    → then_with r (λ f. cond (bytes_eq f.feed timetable_word) (timetable_of number f) (snapshot_of number f)) ≡ Ok row → HasFeedWithin row
+from_fields number (Ok f) row e = by_word number f (bytes_eq f.feed timetable_word) row e
 from_fields number (Err x) row e = absurd cc
 
-row_feed : (number : ℕ) (fields : Record) (row : ListRow) → row_of number fields ≡ Ok row → row.feed < 16
+row_feed : (number : ℕ) (fields : Record) (row : ListRow) → row_of number fields ≡ Ok row → HasFeedWithin row
 row_feed number fields row e = from_fields number (ok_or (fields_in fields) (NotThreeFields number)) row e
 
-rows_feeds : (number : ℕ) (records : List Record) (rows : List ListRow) → rows_from number records ≡ Ok rows → AllByRecursion (λ row. row.feed < 16) rows
-rows_feeds number [] rows e = let same : [] ≡ rows = cc in subst (λ (l : List ListRow). AllByRecursion (λ row. row.feed < 16) l) same tt
+rows_feeds : (number : ℕ) (records : List Record) (rows : List ListRow) → rows_from number records ≡ Ok rows → AllByRecursion HasFeedWithin rows
+rows_feeds number [] rows e = let same : [] ≡ rows = cc in subst (λ (l : List ListRow). AllByRecursion HasFeedWithin l) same tt
 rows_feeds number (fields ∷ records) rows e =
     let h = rows_ok number fields records rows e in
-    subst (λ (l : List ListRow). AllByRecursion (λ row. row.feed < 16) l) h.4 (row_feed number fields h.0 h.2, rows_feeds (number + 1) records h.1 h.3)
+    subst (λ (l : List ListRow). AllByRecursion HasFeedWithin l) h.4 (row_feed number fields h.0 h.2, rows_feeds (number + 1) records h.1 h.3)
 
 pub rows_many : (number : ℕ) (records : List Record) (rows : List ListRow) → rows_from number records ≡ Ok rows → length rows ≡ length records
 rows_many number [] rows e = let same : [] ≡ rows = cc in ap (λ (l : List ListRow). length l) (sym same)

@@ -1,10 +1,11 @@
--- The list of snapshots that are followed, as it stands in its file. (RFC 4180; what a row says, and the limits, are this profile's.)
+-- The list of snapshots that are followed, and of timetables, as it stands in its file. (RFC 4180; what a row says, and the limits, are this profile's.)
 use Rattle.std.specs.Prelude.{◌≤◌, ◌<◌, ℕ, ◌+◌, List, [], ◌∷◌, ◌++◌, length, nat_lt, Option, Some, None, Result, Ok, Err, if◌then◌else◌}
 use Rattle.std.specs.List.{AllByRecursion}
 use Rattle.csv_records.specs.Results.{then_with}
 use Rattle.csv_records.specs.Records.{Record, records_of}
 use Rattle.feed_list.specs.Rows.{row_of}
 use Rattle.feed_list.specs.declared.row.ListRow.{ListRow}
+use Rattle.feed_list.specs.declared.row.ListRow.TheVariants.{Snapshot, Timetable}
 use Rattle.feed_list.specs.declared.fault.ListFault.{ListFault}
 use Rattle.feed_list.specs.declared.fault.ListFault.TheVariants.{MissingFile, TooLarge}
 
@@ -34,7 +35,12 @@ abbrev pub list_in : Option (List ℕ) → Result (List ListRow) ListFault
 list_in None = Err MissingFile
 list_in (Some bytes) = if nat_lt byte_limit (length bytes) then Err TooLarge else list_of (records_of bytes)
 
--- a list that can be followed has few rows, each of a feed that there may be
+-- a snapshot is of a feed that there may be
+abbrev pub HasFeedWithin : ListRow → Type 0
+HasFeedWithin (Snapshot row) = row.feed < 16
+HasFeedWithin (Timetable folder) = Unit {0}
+
+-- a list that can be followed has few rows, whose snapshots are each of a feed that there may be
 pub record IsWithinLimits (rows : List ListRow) : Type 0 where
   pub few : length rows ≤ row_limit
-  pub feeds : AllByRecursion (λ row. row.feed < 16) rows
+  pub feeds : AllByRecursion HasFeedWithin rows

@@ -1,5 +1,5 @@
--- A row of a list: a feed, a moment and the path of a snapshot. (This profile.)
-use Rattle.std.specs.Prelude.{ℕ, List, [], ◌∷◌, Option, Some, None, Result, Ok}
+-- A row of a list: a feed, a moment and the path of a snapshot; or the folder of a timetable. (This profile.)
+use Rattle.std.specs.Prelude.{ℕ, List, [], ◌∷◌, Option, Some, None, Result, Ok, bytes_eq, codes, if◌then◌else◌}
 use Rattle.csv_records.specs.Results.{ok_or, then_with}
 use Rattle.csv_records.specs.Texts.{text_of}
 use Rattle.csv_records.specs.Records.{Record}
@@ -9,6 +9,7 @@ use Rattle.feed_list.specs.declared.column.Column.TheVariants.{Feed, Moment, Pat
 use Rattle.feed_list.specs.declared.fault.ListFault.{ListFault}
 use Rattle.feed_list.specs.declared.fault.ListFault.TheVariants.{BadValue, NotText, NotThreeFields}
 use Rattle.feed_list.specs.declared.row.ListRow.{ListRow}
+use Rattle.feed_list.specs.declared.row.ListRow.TheVariants.{Snapshot, Timetable}
 
 -- the fields of a row
 pub record Fields : Type 0 where
@@ -32,11 +33,32 @@ value_in read number column field = then_with (text_in number column field) (λ 
 abbrev pub path_in : ℕ → List ℕ → Result (List ℕ) ListFault
 path_in number field = value_in path_of number Path field
 
--- The row of this number: first not three fields, then the feed, the moment and the path.
-abbrev pub row_of : ℕ → Record → Result ListRow ListFault
-row_of number cells =
-    then_with (ok_or (fields_in cells) (NotThreeFields number)) (λ fields.
+-- the first field of a timetable's row
+abbrev pub timetable_word : List ℕ
+timetable_word = codes "timetable"
+
+-- a timetable has no moment: the field is empty
+abbrev pub empty_of : List ℕ → Option (List ℕ)
+empty_of [] = Some []
+empty_of (byte ∷ bytes) = None
+
+-- The row of a timetable: the moment, which is empty, and then the folder.
+abbrev pub timetable_of : ℕ → Fields → Result ListRow ListFault
+timetable_of number fields =
+    then_with (value_in empty_of number Moment fields.moment) (λ empty.
+    then_with (path_in number fields.path) (λ folder.
+    Ok (Timetable folder)))
+
+-- The row of a snapshot: the feed, the moment and the path.
+abbrev pub snapshot_of : ℕ → Fields → Result ListRow ListFault
+snapshot_of number fields =
     then_with (value_in feed_of number Feed fields.feed) (λ feed.
     then_with (value_in number_of number Moment fields.moment) (λ moment.
     then_with (path_in number fields.path) (λ path.
-    Ok (record { feed = feed; moment = moment; path = path })))))
+    Ok (Snapshot (record { feed = feed; moment = moment; path = path })))))
+
+-- The row of this number: first not three fields, then what its first field says that it is.
+abbrev pub row_of : ℕ → Record → Result ListRow ListFault
+row_of number cells =
+    then_with (ok_or (fields_in cells) (NotThreeFields number)) (λ fields.
+    if bytes_eq fields.feed timetable_word then timetable_of number fields else snapshot_of number fields)

@@ -5,11 +5,11 @@ ghost use Rattle.feed_list.specs.Texts.{column_name};
 /// A column of a list, in the order in which they stand.
 #[derive(Clone, Copy, Debug, PartialEq, Eq)]
 pub enum Column {
-    /// The number of the feed.
+    /// The number of the feed, or the word of a timetable.
     Feed,
-    /// The moment at which the snapshot came.
+    /// The moment at which the snapshot came. A timetable has none.
     Moment,
-    /// The path of the snapshot's file.
+    /// The path of the snapshot's file, or of the timetable's folder.
     Path,
 }
 

@@ -1,8 +1,8 @@
 //! A row of a list.
-ghost use Rattle.std.specs.Prelude.{◌≡◌, ◌≢◌, Ok, Err, IfOk, IfErr, option_map};
+ghost use Rattle.std.specs.Prelude.{◌≡◌, ◌≢◌, Ok, Err, IfOk, IfErr, option_map, bytes_eq};
 ghost use Rattle.csv.specs.Records.{fields_of};
 ghost use Rattle.csv_records.specs.Texts.{texts};
-ghost use Rattle.feed_list.specs.Rows.{fields_in, path_in, row_of, text_in, value_in};
+ghost use Rattle.feed_list.specs.Rows.{empty_of, fields_in, path_in, row_of, snapshot_of, text_in, timetable_of, timetable_word, value_in};
 ghost use Rattle.feed_list.specs.Values.{feed_of, number_of};
 ghost use Rattle.feed_list.specs.Fields.{fields_held};
 ghost use Rattle.feed_list.specs.declared.column.Column.TheVariants.{Feed, Moment};
@@ -17,10 +17,18 @@ use feed_values::Text;
 use rt_words::{is_path, number_of};
 use std::alloc::Global;
 
+/// What comes next: a snapshot of a feed, or the timetable that is in force from there on.
+#[derive(Drop)]
+pub enum ListRow {
+    Snapshot(SnapshotRow),
+    /// The path of the timetable's folder.
+    Timetable(Text),
+}
+
 /// A snapshot that comes: the number of its feed, which is at most 15; the moment at which it came, as POSIX time in
 /// seconds; and the path of its file.
 #[derive(Drop)]
-pub struct ListRow {
+pub struct SnapshotRow {
     pub feed: u8,
     pub moment: u64,
     pub path: Text,
@@ -42,10 +50,37 @@ pub fn row_of(alloc: Global, number: u64, row: &ByteRecord) -> Result<ListRow, L
     let Some(fields) = fields_in(row) else {
         return Err(ListFault::NotThreeFields(number));
     };
+    if is_timetable(fields.feed) {
+        timetable_of(alloc, number, fields)
+    } else {
+        snapshot_of(alloc, number, fields)
+    }
+}
+
+fn is_timetable(field: &[u8]) -> bool
+    ensures { result ≡ bytes_eq field.now timetable_word }
+{
+    field == b"timetable".as_slice()
+}
+
+/// The row of a timetable, which comes at no moment.
+fn timetable_of(alloc: Global, number: u64, fields: RowFields<'_>) -> Result<ListRow, ListFault>
+    ensures ok { IfOk result (λ found. timetable_of number (fields_held fields.entry) ≡ Ok found) }
+    ensures err { IfErr result (λ e. e ≢ fault.Memory → timetable_of number (fields_held fields.entry) ≡ Err e) }
+{
+    no_moment_in(number, fields.moment)?;
+    let folder = path_in(alloc, number, fields.path)?;
+    Ok(ListRow::Timetable(folder))
+}
+
+fn snapshot_of(alloc: Global, number: u64, fields: RowFields<'_>) -> Result<ListRow, ListFault>
+    ensures ok { IfOk result (λ found. snapshot_of number (fields_held fields.entry) ≡ Ok found) }
+    ensures err { IfErr result (λ e. e ≢ fault.Memory → snapshot_of number (fields_held fields.entry) ≡ Err e) }
+{
     let feed = feed_in(number, fields.feed)?;
     let moment = moment_in(number, fields.moment)?;
     let path = path_in(alloc, number, fields.path)?;
-    Ok(ListRow { feed, moment, path })
+    Ok(ListRow::Snapshot(SnapshotRow { feed, moment, path }))
 }
 
 fn fields_in(row: &ByteRecord) -> Option<RowFields<'_>>
@@ -83,6 +118,18 @@ fn moment_in(number: u64, field: &[u8]) -> Result<u64, ListFault>
 {
     let text = text_in(number, Column::Moment, field)?;
     number_of(text).ok_or(ListFault::BadValue(number, Column::Moment))
+}
+
+/// An empty field, where a moment would stand.
+fn no_moment_in(number: u64, field: &[u8]) -> Result<&str, ListFault>
+    ensures { texts result ≡ value_in empty_of number Moment field.now }
+{
+    let text = text_in(number, Column::Moment, field)?;
+    if text.is_empty() {
+        Ok(text)
+    } else {
+        Err(ListFault::BadValue(number, Column::Moment))
+    }
 }
 
 fn path_in(alloc: Global, number: u64, field: &[u8]) -> Result<Text, ListFault>

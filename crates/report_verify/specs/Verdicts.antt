@@ -45,7 +45,7 @@ pub record Spells (text : List ℕ) (f : Found) (since : ℕ) : Type 0 where
 
 -- the other lines of a report
 abbrev pub other_names : List (List ℕ)
-other_names = codes "accepted" ∷ codes "refused" ∷ codes "closed" ∷ codes "trial" ∷ []
+other_names = codes "accepted" ∷ codes "refused" ∷ codes "closed" ∷ codes "trial" ∷ codes "timetable" ∷ codes "refused_timetable" ∷ []
 
 abbrev pub is_one_of : List (List ℕ) → Option (List ℕ) → Bool
 is_one_of names None = false

@@ -1,5 +1,6 @@
 //! The verdict on a line.
-ghost use Rattle.std.specs.Prelude.{◌≡◌, IfOk};
+ghost use Rattle.std.specs.Prelude.{◌≡◌, IfOk, bytes_eq};
+ghost use Rattle.std.specs.List.{list_any};
 ghost use Rattle.serde_json.specs.View.{view};
 ghost use Rattle.report_verify.specs.Verdicts.{is_other, judged, unspelled, verdict_of};
 
@@ -18,7 +19,7 @@ pub enum Verdict {
     Confirmed(Finding, u64),
     /// The line of a finding, and the facts don't break the rule.
     Denied,
-    /// Another line of a report: of a snapshot, of a rule that stands no more, or of a trial.
+    /// Another line of a report: of a snapshot, of a timetable that is exchanged, of a rule that stands no more, or of a trial.
     Other,
     /// No line of a report.
     Malformed,
@@ -71,9 +72,24 @@ fn is_other(tree: &Value) -> bool
     ensures { result ≡ is_other (view tree.now) }
 {
     match text_at(tree, "line") {
-        Some(name) => {
-            name == "accepted" || name == "refused" || name == "closed" || name == "trial"
-        }
+        Some(name) => is_among(
+            name,
+            &[
+                "accepted",
+                "refused",
+                "closed",
+                "trial",
+                "timetable",
+                "refused_timetable",
+            ],
+        ),
         None => false,
     }
+}
+
+/// Whether a name is one of these.
+fn is_among(name: &str, names: &[&str]) -> bool
+    ensures { result ≡ list_any (λ other. bytes_eq name.now other.now) names.now }
+{
+    names.iter().any(|other| name == *other)
 }

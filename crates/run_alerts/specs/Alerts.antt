@@ -3,7 +3,7 @@ use Rattle.std.specs.Prelude.{ℕ, false, List, ◌++◌, None, length}
 use Rattle.std.specs.List.{flat_map}
 use Rattle.rt_outside.specs.Store.{Contents}
 use Rattle.rule_history.specs.History.{Snapshot}
-use Rattle.follow_engine.specs.Entities.{entities_after}
+use Rattle.run_rows.specs.follow_engine.Entities.{entities_after}
 use Rattle.alert_terms.specs.declared.query.Query.{Query}
 use Rattle.alert_terms.specs.InForce.{KeyedEntity, alerts_in, in_force, next_change}
 use Rattle.snapshot_lines.specs.Lines.{line_of}

@@ -4,15 +4,15 @@ ghost use Rattle.std.specs.List.{flat_map};
 ghost use Rattle.timetable.specs.Timetables.{Tables};
 ghost use Rattle.rule_history.specs.History.{Snapshot};
 ghost use Rattle.engine_laws.specs.Standings.{Matches};
-ghost use Rattle.follow_engine.specs.Engines.{engine_data};
-ghost use Rattle.follow_engine.specs.Entities.{entities_after, entities_held};
+ghost use Rattle.run_rows.specs.follow_engine.Engines.{engine_data};
+ghost use Rattle.run_rows.specs.follow_engine.Entities.{entities_after, entities_held};
 ghost use Rattle.run_alerts.specs.Alerts.{alerts_text};
 ghost use Rattle.run_alerts.specs.Lines.{alert_text};
 
 use crate::lines::{push_sum, with_alert};
 use alert_view::{AlertView, Query};
-use follow_engine::Engine;
 use rule_table::EntityKey;
+use run_rows::Engine;
 use std::alloc::{AllocError, Global};
 
 /// The lines of the alerts that are in force at a moment, as POSIX time in seconds, for whom is asked for, and behind them the line that

@@ -8,7 +8,7 @@ use Rattle.feed_values.specs.Snapshot.{entities_of}
 use Rattle.feed_codec.specs.declared.refusal.Reason.TheVariants.{NoFile}
 use Rattle.feed_codec.specs.declared.refusal.Refusal.{Refusal}
 use Rattle.feed_codec.specs.Refusal.{refusal, refused as refused_at}
-use Rattle.feed_list.specs.declared.row.ListRow.{ListRow}
+use Rattle.feed_list.specs.declared.row.SnapshotRow.{SnapshotRow}
 use Rattle.timetable.specs.Timetables.{Tables}
 use Rattle.rule_table.specs.Found.{Found}
 use Rattle.rule_history.specs.History.{Snapshot, feed_limit, feed_limit-is}
@@ -72,7 +72,7 @@ module _ (t : Option Tables) where
 
 -- ---- an accepted one
 module _ (t : Option Tables) (moment : ℕ) (file bytes : List ℕ) where
-  abbrev row : ListRow
+  abbrev row : SnapshotRow
   row = record { feed = 0; moment = moment; path = file }
 
   abbrev first : Snapshot

@@ -8,7 +8,7 @@ use Rattle.rt_outside.proofs.Appends.{append_known-nil, append_known-both, Appen
 use denote.Ref.{Bor}
 use Rattle.rule_table.specs.Found.{Found}
 use Rattle.rule_history.specs.Standing.{Standing}
-use Rattle.follow_engine.specs.Left.{standing_of}
+use Rattle.run_rows.specs.follow_engine.Left.{standing_of}
 use Rattle.rt_report.specs.declared.finding.LineKind.TheVariants as line
 use Rattle.rt_report.proofs.Joined.{or_apart, or_false}
 use Rattle.run_base.specs.Sending.{SendsText}

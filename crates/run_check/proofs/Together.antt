@@ -5,8 +5,8 @@ use Rattle.rule_history.specs.History.{Snapshot}
 use Rattle.std.specs.declared.option.Option.{Option}
 use Rattle.engine_laws.specs.Standings.{listed}
 use Rattle.engine_laws.proofs.Computed.{list_is_computed}
-use Rattle.follow_engine.specs.declared.engine.Engine.{Engine}
-use Rattle.follow_engine.specs.Engines.{engine_data}
+use Rattle.run_rows.specs.follow_engine.Engine.{Engine}
+use Rattle.run_rows.specs.follow_engine.Engines.{engine_data}
 use Rattle.run_rows.specs.Followed.{Stands}
 use Rattle.run_check.specs.Check.{all_findings, findings_ending}
 

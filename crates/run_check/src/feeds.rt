@@ -1,7 +1,7 @@
 //! `check` of several files, each the snapshot of a feed of its own.
 ghost use Rattle.std.specs.Prelude.{◌≤◌, Contains, length};
 ghost use Rattle.rt_outside.specs.Store.{contents_told};
-ghost use Rattle.follow_engine.specs.Engines.{engine_data};
+ghost use Rattle.run_rows.specs.follow_engine.Engines.{engine_data};
 ghost use Rattle.rule_history.specs.Answered.{tables_of};
 ghost use Rattle.run_base.specs.Carried.{CarriesOut, exactly};
 ghost use Rattle.run_base.specs.Counted.{IsCounted, counters};

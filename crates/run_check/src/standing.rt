@@ -2,14 +2,14 @@
 ghost use Rattle.std.specs.Prelude.{IfOk, IsErrOf};
 ghost use Rattle.rt_outside.specs.Causes.{Rose};
 ghost use Rattle.rt_outside.specs.Sink.{AppendsPrefix};
-ghost use Rattle.follow_engine.specs.Engines.{engine_data};
+ghost use Rattle.run_rows.specs.follow_engine.Engines.{engine_data};
 ghost use Rattle.rt_report.specs.FindingLines.{all_text};
 ghost use Rattle.run_check.specs.Check.{AreWritten};
 
-use follow_engine::Engine;
 use rt_outside::{Sink, put_all};
 use rt_report::Lines;
 use run_base::{Fault, send_piece};
+use run_rows::Engine;
 use std::alloc::Global;
 
 /// Writes the lines of all findings that stand with an engine, and answers whether one is of an error. They are held back until

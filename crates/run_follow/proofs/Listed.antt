@@ -4,7 +4,7 @@ use Rattle.std.specs.declared.option.Option.{Option}
 use Rattle.std.specs.FinMap.{get}
 use Rattle.std.specs.Io.KnownBytes.{append_known}
 use Rattle.rt_outside.specs.Causes.{Rose}
-use Rattle.rt_outside.specs.Sink.{SinkState}
+use Rattle.rt_outside.specs.Sink.{AppendsPrefix, SinkState}
 use Rattle.rt_outside.specs.Store.{Contents, FilesState, contents_told}
 use Rattle.timetable.specs.Timetables.{Tables}
 use Rattle.feed_list.specs.Lists.{list_in}
@@ -12,19 +12,19 @@ use Rattle.feed_list.specs.Texts.{fault_text}
 use Rattle.feed_list.specs.declared.fault.ListFault.{ListFault}
 use Rattle.feed_list.specs.declared.fault.ListFault.TheVariants as listed
 use Rattle.feed_list.specs.declared.row.ListRow.{ListRow}
-use Rattle.follow_engine.specs.declared.engine.Engine.{Engine}
 use Rattle.run_base.specs.declared.input_fault.InputFault.{InputFault}
 use Rattle.run_base.specs.declared.status.Status.{Status}
 use Rattle.run_base.specs.Carried.{CarriesOut, exactly}
-use Rattle.run_base.specs.Faults.{IsErrorText, refused_text, says_refused}
-use Rattle.run_base.specs.Inputs.{FailsAt, SaysInputFault}
-use Rattle.run_base.specs.Outside.{outside}
-use Rattle.run_base.specs.Report.{found, refused_input}
-use Rattle.run_base.proofs.Carried.{carried_input, input_more}
-use Rattle.run_rows.specs.Counted.{outcome_work}
-use Rattle.run_rows.specs.declared.telling.Telling.TheVariants.{Changes}
-use Rattle.run_rows.specs.Followed.{IsDone}
-use Rattle.run_rows.specs.Rows.{all_rows}
+use Rattle.run_base.specs.Faults.{IsErrorText, SaysFault, refused_text, says_refused}
+use Rattle.run_base.specs.Inputs.{FailsAt, SaysInputFault, in_folder}
+use Rattle.run_base.specs.declared.fault.Fault.TheVariants as fault
+use Rattle.run_base.specs.Outside.{Outside, outside}
+use Rattle.run_base.specs.Report.{Report, found, refused_input}
+use Rattle.run_base.proofs.Carried.{carried_fault, carried_input, carried_other_fault, input_more}
+use Rattle.run_list.specs.Listed.{Outcome, list_outcome}
+use Rattle.run_list.specs.Stops.{fault_of, name_of, IsStop}
+use Rattle.run_list.specs.declared.stop.Stop.{Stop}
+use Rattle.run_list.specs.declared.stop.Stop.TheVariants as stop
 use Rattle.run_follow.specs.Follow.{IsFollowed, IsListed, TellsListFault, followed, list_report, list_work, rows_report, rows_work}
 
 -- what is read without a timetable is read with one
@@ -35,13 +35,13 @@ followed_more mid told folder list same name (inr (inr none)) = absurd none
 
 -- a list that was read gives the report on its rows
 pub rows_listed : (told : Option Contents) (t : Option Tables) (list : List ℕ) (rows : List ListRow) → IfSome told (λ held. list_in (get held list) ≡ Ok rows) →
-    IfSome told (λ held. followed (all_rows Changes t held rows) ≡ list_report list t held)
+    IfSome told (λ held. followed (list_outcome t held rows) ≡ list_report list t held)
 rows_listed None t list rows is = tt
 rows_listed (Some held) t list rows is = ap (λ r. rows_report t list r held) (sym is)
 
 -- and the work for them
 pub work_listed : (told : Option Contents) (t : Option Tables) (list : List ℕ) (rows : List ListRow) → IfSome told (λ held. list_in (get held list) ≡ Ok rows) →
-    IfSome told (λ held. outcome_work t (all_rows Changes t held rows) ≡ list_work list t held)
+    IfSome told (λ held. (let o : Outcome = list_outcome t held rows in o.work) ≡ list_work list t held)
 work_listed None t list rows is = tt
 work_listed (Some held) t list rows is = ap (λ r. rows_work t r held) (sym is)
 
@@ -68,8 +68,20 @@ carried_list t files later out eb ea result list reads fault why may is rose ask
     )) tells) said
 
 -- rows that were followed to their end
-pub rows_done : (told : Option Contents) (t : Option Tables) (rows : List ListRow) (engine : Engine) (error : Bool) (before now : Option (List ℕ)) (result : Status) → result ≡ found error →
-    IfSome told (λ held. IsDone t engine error before now (all_rows Changes t held rows)) →
-    IfSome told (λ held. (now ≡ append_known before (followed (all_rows Changes t held rows)).text) × (result ≡ (followed (all_rows Changes t held rows)).status) × ((followed (all_rows Changes t held rows)).errors ≡ []))
-rows_done None t rows engine error before now result is done = tt
-rows_done (Some held) t rows engine error before now result is done = (done.written, is ∙ ap found done.error_is, refl)
+pub rows_done : (told : Option Contents) (t : Option Tables) (rows : List ListRow) (error : Bool) (before now : Option (List ℕ)) (result : Status) → result ≡ found error →
+    IfSome told (λ held. (error ≡ (let o : Outcome = list_outcome t held rows in o.error)) × (now ≡ append_known before (let o : Outcome = list_outcome t held rows in o.text))) →
+    IfSome told (λ held. (now ≡ append_known before (followed (list_outcome t held rows)).text) × (result ≡ (followed (list_outcome t held rows)).status) × ((followed (list_outcome t held rows)).errors ≡ []))
+rows_done None t rows error before now result is done = tt
+rows_done (Some held) t rows error before now result is done = (done.1, is ∙ ap found done.0, refl)
+
+-- rows that weren't: the fault is told
+pub carried_stop : (report : Contents → Report) (reads : List ℕ → Type 0) (before after : Outside) (result : Status) →
+    IfSome (contents_told before.files.told) (λ held. AppendsPrefix before.out.written after.out.written (report held).text) → (why : Stop) →
+    IsStop reads after.files.asked (Rose before.files.faults after.files.faults) (Rose before.out.faults after.out.faults) why → SaysFault (fault_of why) (name_of why) before.err after.err result →
+    CarriesOut (exactly report) reads before after result
+carried_stop report reads before after result part (stop.Read name) is says =
+    carried_fault report reads before after result part fault.Read name.now (is.reading refl) is.read is.write (is.named refl) says
+carried_stop report reads before after result part (stop.ReadIn folder name) is says =
+    carried_fault report reads before after result part fault.Read (in_folder folder.now name.now) (is.reading refl) is.read is.write (is.named refl) says
+carried_stop report reads before after result part stop.Write is says = carried_other_fault report reads before after result part fault.Write [] (λ e. cc e) is.write says
+carried_stop report reads before after result part stop.Memory is says = carried_other_fault report reads before after result part fault.Memory [] (λ e. cc e) is.write says

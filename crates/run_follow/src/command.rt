@@ -1,14 +1,13 @@
 //! The command `follow`.
-ghost use Rattle.std.specs.Prelude.{None, Contains, option_copied};
+ghost use Rattle.std.specs.Prelude.{None, option_copied};
 ghost use Rattle.rt_outside.specs.Store.{contents_told};
 ghost use Rattle.feed_list.specs.Lists.{IsWithinLimits};
 ghost use Rattle.rule_history.specs.Answered.{tables_of};
 ghost use Rattle.run_base.specs.Carried.{CarriesOut, exactly};
 ghost use Rattle.run_base.specs.Counted.{IsCounted, counters};
 ghost use Rattle.run_base.specs.Outside.{outside};
-ghost use Rattle.run_rows.specs.Counted.{outcome_work};
-ghost use Rattle.run_rows.specs.Rows.{all_rows, paths_of};
-ghost use Rattle.run_rows.specs.declared.telling.Telling.TheVariants.{Changes};
+ghost use Rattle.run_list.specs.Listed.{list_outcome};
+ghost use Rattle.run_list.specs.Stops.{IsReadByRows};
 ghost use Rattle.run_follow.specs.Follow.{IsFollowed, follow_report, follow_work, followed, list_report, list_work};
 
 use crate::list_fault::told_as;
@@ -16,16 +15,16 @@ use feed_list::{ListRow, read_list};
 use feed_values::Text;
 use rt_outside::{Files, Sink, Steps};
 use run_base::{Status, say_input_fault};
-use run_rows::{Telling, follow_rows, say_row_fault};
+use run_list::{follow_rows, say_stop};
 use run_timetable::load_given;
 use std::alloc::Global;
 use std::sync::ledger::Ledger;
 use timetable::Timetable;
 
-/// Carries out `follow` on the list in this file: writes what each of its snapshots opens and closes.
+/// Carries out `follow` on the list in this file: writes what each of its snapshots and timetables opens and closes.
 ///
 /// Where a folder is given, its timetable is read first; one that is refused ends the run. Where none is given, the rules
-/// against the timetable find nothing. The list is read whole before its first snapshot.
+/// against the timetable find nothing until one comes in the list. The list is read whole before its first row is taken.
 pub fn follow<F: Files, S: Sink, E: Sink, D: Ledger, T: Ledger>(
     alloc: Global,
     folder: Option<&Text>,
@@ -92,22 +91,13 @@ fn follow_listed<F: Files, S: Sink, E: Sink, D: Ledger, T: Ledger>(
     tests: &mut Steps<T>,
 ) -> Status
     requires { IsWithinLimits rows.now }
-    ensures carried { CarriesOut (exactly (λ held. followed (all_rows Changes (tables_of timetable) held rows.now))) (Contains (paths_of rows.now))
+    ensures carried { CarriesOut (exactly (λ held. followed (list_outcome (tables_of timetable) held rows.now))) (IsReadByRows rows.now)
         (outside (F.state files.old) (S.state out.old) (E.state err.old))
         (outside (F.state files.new) (S.state out.new) (E.state err.new)) result }
-    ensures counted { IsCounted (λ held. outcome_work (tables_of timetable) (all_rows Changes (tables_of timetable) held rows.now)) (contents_told (F.state files.old).told) (counters decodes.old tests.old) (counters decodes.new tests.new) result }
+    ensures counted { IsCounted (λ held. (list_outcome (tables_of timetable) held rows.now).work) (contents_told (F.state files.old).told) (counters decodes.old tests.old) (counters decodes.new tests.new) result }
 {
-    match follow_rows(
-        alloc,
-        Telling::Changes,
-        timetable,
-        rows,
-        files,
-        out,
-        decodes,
-        tests,
-    ) {
-        Ok(end) => Status::found(end.error),
-        Err(fault) => say_row_fault(err, fault, rows),
+    match follow_rows(alloc, timetable, rows, files, out, decodes, tests) {
+        Ok(error) => Status::found(error),
+        Err(stop) => say_stop(err, stop),
     }
 }

@@ -1,4 +1,4 @@
-//! The command `follow`: what each snapshot of a list opens and closes.
+//! The command `follow`: what each snapshot of a list opens and closes, and each timetable.
 //!
 //! `specs/Follow.antt` says what it writes and answers, and which files it reads.
 //!

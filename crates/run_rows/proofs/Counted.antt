@@ -5,7 +5,7 @@ use Rattle.std.specs.FinMap.{get}
 use Rattle.std.proofs.lemmas.List.{take-append-drop, take_all}
 use Rattle.rt_outside.specs.Store.{Contents}
 use Rattle.feed_codec.specs.declared.refusal.Refusal.{Refusal}
-use Rattle.feed_list.specs.declared.row.ListRow.{ListRow}
+use Rattle.feed_list.specs.declared.row.SnapshotRow.{SnapshotRow}
 use Rattle.timetable.specs.Timetables.{Tables}
 use Rattle.rule_history.specs.History.{Snapshot}
 use Rattle.rule_history.specs.Changed.{with}
@@ -53,23 +53,23 @@ module _ (t : Option Tables) where
 
 -- ---- of rows
 module _ (telling : Telling) (t : Option Tables) where
-  row_more : (h : List Snapshot) (n : ℕ) (row : ListRow) (found : Result (List ℕ) Refusal) →
+  row_more : (h : List Snapshot) (n : ℕ) (row : SnapshotRow) (found : Result (List ℕ) Refusal) →
       outcome_work t (row_outcome telling t h n row found) ≡ plus (history_work t h) (row_work t h row found)
   row_more h n row (Ok bytes) = work_with t h (taken row bytes)
   row_more h n row (Err why) = sym (plus_none (history_work t h))
 
   -- a row leaves the history or makes it longer
-  row_longer : (h : List Snapshot) (n : ℕ) (row : ListRow) (found : Result (List ℕ) Refusal) →
+  row_longer : (h : List Snapshot) (n : ℕ) (row : SnapshotRow) (found : Result (List ℕ) Refusal) →
       (more : List Snapshot) × ((let o : Outcome = row_outcome telling t h n row found in o.after) ≡ h ++ more)
   row_longer h n row (Ok bytes) = (taken row bytes ∷ [], refl)
   row_longer h n row (Err why) = ([], sym (append-nil h))
 
   module _ (held : Contents) where
-    abbrev from : List Snapshot → ℕ → List ListRow → Outcome
+    abbrev from : List Snapshot → ℕ → List SnapshotRow → Outcome
     from h n rows = rows_from telling t held h n rows
 
     -- and so do rows
-    rows_longer : (h : List Snapshot) (n : ℕ) (rows : List ListRow) → (more : List Snapshot) × ((from h n rows).after ≡ h ++ more)
+    rows_longer : (h : List Snapshot) (n : ℕ) (rows : List SnapshotRow) → (more : List Snapshot) × ((from h n rows).after ≡ h ++ more)
     rows_longer h n [] = ([], sym (append-nil h))
     rows_longer h n (row ∷ rows) =
         let first = row_longer h n row (bytes_in (get held row.path)) in
@@ -77,7 +77,7 @@ module _ (telling : Telling) (t : Option Tables) where
         let rest = rows_longer o.after (n + 1) rows in
         (first.0 ++ rest.0, rest.1 ∙ ap (λ g. g ++ rest.0) first.1 ∙ append_assoc h first.0 rest.0)
 
-    module _ (rows : List ListRow) where
+    module _ (rows : List SnapshotRow) where
       -- no more than the work for a front of the rows is no more than that for all
       rows_front : (i : ℕ) (old new : Work) → RoseAtMost (outcome_work t (from [] 0 (take i rows))) old new → RoseAtMost (outcome_work t (from [] 0 rows)) old new
       rows_front i old new most =
@@ -88,18 +88,18 @@ module _ (telling : Telling) (t : Option Tables) where
           (most_front t front.after rest.0 old new most)
 
       -- one row more
-      next_work : (i : ℕ) (row : ListRow) → i < length rows → row ≡ get_or rows i row →
+      next_work : (i : ℕ) (row : SnapshotRow) → i < length rows → row ≡ get_or rows i row →
           outcome_work t (from [] 0 (take (i + 1) rows)) ≡ plus (outcome_work t (from [] 0 (take i rows))) (row_work t (from [] 0 (take i rows)).after row (bytes_in (get held row.path)))
       next_work i row l is = ap (outcome_work t) (from-more telling t held [] rows i row l is) ∙ row_more (from [] 0 (take i rows)).after i row (bytes_in (get held row.path))
 
 -- what was found in a row's file is what stands there, where that is told
-pub row_counts : (told : Option Contents) (rose : Work → Work → Work → Type 0) (engine : Engine) (row : ListRow) (name : List ℕ) (found : Result (List ℕ) Refusal) (old new : Work) → name ≡ row.path →
+pub row_counts : (told : Option Contents) (rose : Work → Work → Work → Type 0) (engine : Engine) (row : SnapshotRow) (name : List ℕ) (found : Result (List ℕ) Refusal) (old new : Work) → name ≡ row.path →
     IfSome told (λ held. bytes_in (get held name) ≡ found) → RowCounts rose engine row found old new → IfSome told (λ held. RowCounts rose engine row (bytes_in (get held row.path)) old new)
 row_counts told rose engine row name found old new named is counts =
     each told _ _ (λ held e. subst (λ f. RowCounts rose engine row f old new) (sym e ∙ ap (λ n. bytes_in (get held n)) named) counts) is
 
 -- ---- while rows are followed
-module _ (telling : Telling) (t : Option Tables) (rows : List ListRow) (old : Work) where
+module _ (telling : Telling) (t : Option Tables) (rows : List SnapshotRow) (old : Work) where
   -- the counters rose by the work for the first so many rows
   abbrev pub AreCounted : Option Contents → Work → ℕ → Type 0
   AreCounted told now i = IfSome told (λ held. RoseBy (outcome_work t (rows_from telling t held [] 0 (take i rows))) old now)
@@ -109,19 +109,19 @@ module _ (telling : Telling) (t : Option Tables) (rows : List ListRow) (old : Wo
   AreCountedMost told now = IfSome told (λ held. RoseAtMost (outcome_work t (rows_from telling t held [] 0 rows)) old now)
 
   -- one row more
-  module _ (before now : Option (List ℕ)) (engine : Engine) (error : Bool) (i : ℕ) (row : ListRow) (l : i < length rows) (is : row ≡ get_or rows i row) (mid new : Work) where
+  module _ (before now : Option (List ℕ)) (engine : Engine) (error : Bool) (i : ℕ) (row : SnapshotRow) (l : i < length rows) (is : row ≡ get_or rows i row) (mid new : Work) where
     pub counted_next : (told : Option Contents) → Done told telling t before rows engine error now i → AreCounted told mid i →
         IfSome told (λ held. RowCounts RoseBy engine row (bytes_in (get held row.path)) mid new) → AreCounted told new (i + 1)
     counted_next None done first next = tt
     counted_next (Some held) done first next =
-        subst (λ w. RoseBy w old new) (sym (next_work telling t held rows i row l is)) (by_both _ _ old mid new first (next t _ done.stands_for))
+        subst (λ w. RoseBy w old new) (sym (next_work telling t held rows i row l is)) (by_both _ _ old mid new first (next t _ done.stands_for.matches))
 
     pub most_next : (told : Option Contents) → Done told telling t before rows engine error now i → AreCounted told mid i →
         IfSome told (λ held. RowCounts RoseAtMost engine row (bytes_in (get held row.path)) mid new) → AreCountedMost told new
     most_next None done first next = tt
     most_next (Some held) done first next =
         rows_front telling t held rows (i + 1) old new
-        (subst (λ w. RoseAtMost w old new) (sym (next_work telling t held rows i row l is)) (most_both _ _ old mid new first (next t _ done.stands_for)))
+        (subst (λ w. RoseAtMost w old new) (sym (next_work telling t held rows i row l is)) (most_both _ _ old mid new first (next t _ done.stands_for.matches)))
 
   -- all rows
   pub counted_all_rows : (told : Option Contents) (now : Work) (i : ℕ) → length rows ≤ i → AreCounted told now i → IfSome told (λ held. RoseBy (outcome_work t (rows_from telling t held [] 0 rows)) old now)

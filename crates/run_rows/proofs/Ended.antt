@@ -6,7 +6,7 @@ use Rattle.std.specs.Io.KnownBytes.{append_known}
 use Rattle.rt_outside.specs.Sink.{AppendsPrefix, SinkState}
 use Rattle.rt_outside.specs.Store.{Contents, contents_told}
 use Rattle.rt_outside.proofs.Appends.{append_known-both, AppendsPrefix-first, AppendsPrefix-second}
-use Rattle.feed_list.specs.declared.row.ListRow.{ListRow}
+use Rattle.feed_list.specs.declared.row.SnapshotRow.{SnapshotRow}
 use Rattle.timetable.specs.Timetables.{Tables}
 use Rattle.rule_history.specs.History.{Snapshot}
 use Rattle.follow_engine.specs.declared.engine.Engine.{Engine}
@@ -30,7 +30,7 @@ lines_part None ending outcome before now p = tt
 lines_part (Some held) ending outcome before now p = AppendsPrefix-first before now (outcome held).text _ p
 
 -- what cuts off the rows of files cuts off the files
-pub files_cut_off : (t : Option Tables) (moment : ℕ) (files : List (List ℕ)) (rows : List ListRow) (before after : Outside) (result : Status) → rows ≡ file_rows 0 moment files →
+pub files_cut_off : (t : Option Tables) (moment : ℕ) (files : List (List ℕ)) (rows : List SnapshotRow) (before after : Outside) (result : Status) → rows ≡ file_rows 0 moment files →
     ((ending : List Snapshot → Ending) → CarriesOut (exactly (λ held. ended ending (all_rows Counts t held rows))) (Contains (paths_of rows)) before after result) → IsCutOff t moment files before after result
 files_cut_off t moment files rows before after result are cut ending =
     subst (λ names. CarriesOut (exactly (files_ended ending t moment files)) (Contains names) before after result) (paths_are 0 moment files)

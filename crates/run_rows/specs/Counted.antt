@@ -2,7 +2,7 @@
 use Rattle.std.specs.Prelude.{ℕ, List, [], ◌∷◌, Option, Result, Ok, Err}
 use Rattle.rt_outside.specs.Store.{Contents}
 use Rattle.feed_codec.specs.declared.refusal.Refusal.{Refusal}
-use Rattle.feed_list.specs.declared.row.ListRow.{ListRow}
+use Rattle.feed_list.specs.declared.row.SnapshotRow.{SnapshotRow}
 use Rattle.timetable.specs.Timetables.{Tables}
 use Rattle.rule_history.specs.History.{Snapshot}
 use Rattle.rule_history.specs.Changed.{tested, with}
@@ -33,6 +33,6 @@ abbrev pub files_work : Option Tables → ℕ → List (List ℕ) → Contents �
 files_work t moment files contents = outcome_work t (files_outcome t moment files contents)
 
 -- for a row after a history: for a refused snapshot nothing is decoded or tested
-abbrev pub row_work : Option Tables → List Snapshot → ListRow → Result (List ℕ) Refusal → Work
+abbrev pub row_work : Option Tables → List Snapshot → SnapshotRow → Result (List ℕ) Refusal → Work
 row_work t h row (Err why) = no_work
 row_work t h row (Ok bytes) = work_of t h (taken row bytes)

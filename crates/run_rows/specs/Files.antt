@@ -4,7 +4,7 @@ use Rattle.std.specs.Io.KnownBytes.{append_known}
 use Rattle.rt_outside.specs.Causes.{Rose}
 use Rattle.rt_outside.specs.Sink.{AppendsPrefix, SinkState}
 use Rattle.rt_outside.specs.Store.{Contents}
-use Rattle.feed_list.specs.declared.row.ListRow.{ListRow}
+use Rattle.feed_list.specs.declared.row.SnapshotRow.{SnapshotRow}
 use Rattle.timetable.specs.Timetables.{Tables}
 use Rattle.rule_history.specs.History.{Snapshot}
 use Rattle.run_base.specs.declared.fault.Fault.{Fault}
@@ -18,7 +18,7 @@ use Rattle.run_rows.specs.declared.telling.Telling.TheVariants.{Counts}
 use Rattle.run_rows.specs.Rows.{Outcome, all_rows}
 
 -- files as rows: a feed for each, and one moment for all
-abbrev pub file_rows : ℕ → ℕ → List (List ℕ) → List ListRow
+abbrev pub file_rows : ℕ → ℕ → List (List ℕ) → List SnapshotRow
 file_rows feed moment [] = []
 file_rows feed moment (file ∷ files) = record { feed = feed; moment = moment; path = file } ∷ file_rows (feed + 1) moment files
 

@@ -1,3 +1,4 @@
+pub mod follow_engine
 pub mod Rows
 pub mod Followed
 pub mod Files

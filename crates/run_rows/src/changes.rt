@@ -1,24 +1,27 @@
-//! The lines of what a snapshot changed.
+//! The lines of what opened and closed.
 ghost use Rattle.std.specs.Prelude.{◌≡◌, ◌++◌, OnOk};
 ghost use Rattle.std.specs.List.{flat_map, list_any};
 ghost use Rattle.follow_engine.specs.Deltas.{all_opened, all_closed};
 ghost use Rattle.rt_report.specs.declared.finding.LineKind.TheVariants as line;
 ghost use Rattle.rt_report.specs.FindingLines.{AddsText, standing_text, closed_text, any_error, is_error};
+ghost use Rattle.run_rows.specs.Rows.{changes_text};
 
 use crate::rows::either;
-use follow_engine::{Closed, Delta, Opened};
+use follow_engine::{Closed, Opened};
 use rt_report::{LineKind, Lines, closed_line, finding_line, is_error};
 use std::alloc::{AllocError, Global};
 
-/// Appends the lines of what a snapshot opened, and behind them those of what it closed.
-pub fn push_changes(alloc: Global, lines: &mut Lines, delta: &Delta) -> Result<(), AllocError>
-    ensures { OnOk result (AddsText lines.old lines.new
-        (flat_map (standing_text line.Opened) (all_opened delta.now.opened) ++ flat_map closed_text (all_closed delta.now.closed))
-        (any_error (all_opened delta.now.opened))) }
+/// Appends the lines of what opened, and behind them those of what closed.
+pub fn push_changes(
+    alloc: Global,
+    lines: &mut Lines,
+    opened: &[Opened],
+    closed: &[Closed],
+) -> Result<(), AllocError>
+    ensures { OnOk result (AddsText lines.old lines.new (changes_text (all_opened opened.now) (all_closed closed.now)) (any_error (all_opened opened.now))) }
 {
-    let opened = delta.opened.as_slice();
     push_opened(alloc, &mut lines.text, opened)?;
-    push_closed(alloc, &mut lines.text, delta.closed.as_slice())?;
+    push_closed(alloc, &mut lines.text, closed)?;
     lines.error = either(lines.error, opens_error(opened));
     Ok(())
 }

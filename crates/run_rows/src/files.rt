@@ -1,7 +1,6 @@
 //! Several files, each the snapshot of a feed of its own.
 ghost use Rattle.std.specs.Prelude.{◌≡◌, ◌≤◌, Contains, IfSome, IfOk, IfErr, List, OnOk, length};
 ghost use Rattle.rt_outside.specs.Store.{contents_told};
-ghost use Rattle.feed_list.specs.Lists.{IsWithinLimits};
 ghost use Rattle.rule_history.specs.Answered.{tables_of};
 ghost use Rattle.rule_history.specs.History.{Snapshot};
 ghost use Rattle.run_base.specs.Carried.{CarriesOut, exactly};
@@ -11,12 +10,12 @@ ghost use Rattle.run_base.specs.Outside.{outside};
 ghost use Rattle.run_rows.specs.Counted.{files_work, outcome_work};
 ghost use Rattle.run_rows.specs.Files.{Ending, IsCutOff, ended, file_rows, files_outcome};
 ghost use Rattle.run_rows.specs.Followed.{IsDone};
-ghost use Rattle.run_rows.specs.Rows.{all_rows, paths_of};
+ghost use Rattle.run_rows.specs.Rows.{AreWithinLimits, all_rows, paths_of};
 ghost use Rattle.run_rows.specs.declared.telling.Telling.TheVariants.{Counts};
 
 use crate::rows::{RowsEnd, follow_rows, say_row_fault};
 use crate::telling::Telling;
-use feed_list::ListRow;
+use feed_list::SnapshotRow;
 use feed_values::{Items, Text};
 use rt_outside::{Files, Sink, Steps};
 use run_base::{Status, say_memory};
@@ -25,7 +24,11 @@ use std::sync::ledger::Ledger;
 use timetable::Timetable;
 
 // Files as rows: a feed for each, from 0, and one moment for all.
-fn file_rows(alloc: Global, moment: u64, names: &Items<Text>) -> Result<Items<ListRow>, AllocError>
+fn file_rows(
+    alloc: Global,
+    moment: u64,
+    names: &Items<Text>,
+) -> Result<Items<SnapshotRow>, AllocError>
     requires { length names.now ≤ 16 }
     ensures { IfOk result (λ rows. rows ≡ file_rows 0 moment names.now) }
 {
@@ -33,7 +36,7 @@ fn file_rows(alloc: Global, moment: u64, names: &Items<Text>) -> Result<Items<Li
     for (index, name) in names.as_slice().iter().enumerate() {
         let path = name.clone(alloc)?;
         let feed = index as u8;
-        rows.push(ListRow { feed, moment, path })?;
+        rows.push(SnapshotRow { feed, moment, path })?;
     }
     Ok(rows)
 }
@@ -84,14 +87,14 @@ pub fn take_files<F: Files, S: Sink, E: Sink, D: Ledger, T: Ledger>(
 fn take_rows<F: Files, S: Sink, E: Sink, D: Ledger, T: Ledger>(
     alloc: Global,
     table: Timetable,
-    rows: &[ListRow],
+    rows: &[SnapshotRow],
     files: &mut F,
     out: &mut S,
     err: &mut E,
     decodes: &mut Steps<D>,
     tests: &mut Steps<T>,
 ) -> Result<RowsEnd, Status>
-    requires { IsWithinLimits rows.now }
+    requires { AreWithinLimits rows.now }
     ensures whole { IfSome (contents_told (F.state files.old).told) (λ held. IfOk result (λ end.
         IsDone (tables_of table) end.engine end.error (S.state out.old).written (S.state out.new).written (all_rows Counts (tables_of table) held rows.now))) }
     ensures counted { IfSome (contents_told (F.state files.old).told) (λ held.

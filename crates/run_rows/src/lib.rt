@@ -16,6 +16,9 @@ mod row;
 mod rows;
 mod telling;
 
+pub use changes::push_changes;
 pub use files::take_files;
+pub use follow_engine::{Delta, Engine};
+pub use row::{RowEnd, take_row};
 pub use rows::{RowFault, RowsEnd, either, follow_rows, say_row_fault};
 pub use telling::Telling;

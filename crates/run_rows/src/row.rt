@@ -12,7 +12,7 @@ ghost use Rattle.run_rows.specs.Followed.{AreTold, IsRowEnd, RowCounts, Takes};
 use crate::changes::push_changes;
 use crate::telling::Telling;
 use feed_codec::Refusal;
-use feed_list::ListRow;
+use feed_list::SnapshotRow;
 use feed_stream::Kept;
 use follow_engine::{Delta, Engine};
 use rt_outside::{Files, Steps};
@@ -33,7 +33,7 @@ fn told(
     alloc: Global,
     telling: Telling,
     number: u64,
-    row: &ListRow,
+    row: &SnapshotRow,
     delta: &Delta,
 ) -> Result<Lines, AllocError>
     ensures { IfOk result (AreTold telling number row.now (delta_value delta.now)) }
@@ -53,7 +53,10 @@ fn told(
     let mut lines = Lines { text, error: false };
     match telling {
         Telling::Counts => {}
-        Telling::Changes => push_changes(alloc, &mut lines, delta)?,
+        Telling::Changes => {
+            let (opened, closed) = (delta.opened.as_slice(), delta.closed.as_slice());
+            push_changes(alloc, &mut lines, opened, closed)?
+        }
     }
     Ok(lines)
 }
@@ -65,7 +68,7 @@ fn take<D: Ledger, T: Ledger>(
     telling: Telling,
     engine: Engine,
     number: u64,
-    row: &ListRow,
+    row: &SnapshotRow,
     found: Result<Kept, Refusal>,
     decodes: &mut Steps<D>,
     tests: &mut Steps<T>,
@@ -96,7 +99,7 @@ pub fn take_row<F: Files, D: Ledger, T: Ledger>(
     telling: Telling,
     engine: Engine,
     number: u64,
-    row: &ListRow,
+    row: &SnapshotRow,
     files: &mut F,
     decodes: &mut Steps<D>,
     tests: &mut Steps<T>,

@@ -3,17 +3,16 @@ ghost use Rattle.std.specs.Prelude.{◌≡◌, ◌<◌, ◌≤◌, ◌||◌, Som
 ghost use Rattle.rt_outside.specs.Causes.{Rose};
 ghost use Rattle.rt_outside.specs.Sink.{AppendsPrefix};
 ghost use Rattle.rt_outside.specs.Store.{contents_told};
-ghost use Rattle.feed_list.specs.Lists.{IsWithinLimits};
 ghost use Rattle.rule_history.specs.Answered.{tables_of};
 ghost use Rattle.run_base.specs.Counted.{RoseAtMost, RoseBy, counters};
 ghost use Rattle.run_base.specs.Faults.{SaysFault};
 ghost use Rattle.run_rows.specs.Counted.{outcome_work};
 ghost use Rattle.run_rows.specs.Followed.{IsDone, IsRowFault};
-ghost use Rattle.run_rows.specs.Rows.{all_rows};
+ghost use Rattle.run_rows.specs.Rows.{AreWithinLimits, all_rows};
 
 use crate::row::take_row;
 use crate::telling::Telling;
-use feed_list::ListRow;
+use feed_list::SnapshotRow;
 use follow_engine::Engine;
 use rt_outside::{Files, Sink, Steps, put_all};
 use run_base::{Fault, Status, say_fault};
@@ -41,13 +40,13 @@ pub fn follow_rows<F: Files, S: Sink, D: Ledger, T: Ledger>(
     alloc: Global,
     telling: Telling,
     table: Timetable,
-    rows: &[ListRow],
+    rows: &[SnapshotRow],
     files: &mut F,
     out: &mut S,
     decodes: &mut Steps<D>,
     tests: &mut Steps<T>,
 ) -> Result<RowsEnd, RowFault>
-    requires { IsWithinLimits rows.now }
+    requires { AreWithinLimits rows.now }
     ensures text { IfSome (contents_told (F.state files.old).told) (λ held.
         AppendsPrefix (S.state out.old).written (S.state out.new).written (all_rows telling (tables_of table) held rows.now).text) }
     ensures whole { IfSome (contents_told (F.state files.old).told) (λ held. IfOk result (λ end.
@@ -82,9 +81,9 @@ pub fn follow_rows<F: Files, S: Sink, D: Ledger, T: Ledger>(
 }
 
 /// Tells a fault at one of these rows, and answers it. A read fault is that of the row's file.
-pub fn say_row_fault<E: Sink>(err: &mut E, fault: RowFault, rows: &[ListRow]) -> Status
+pub fn say_row_fault<E: Sink>(err: &mut E, fault: RowFault, rows: &[SnapshotRow]) -> Status
     requires { fault.row < length rows.now }
-    ensures { (row : ListRow) → slice_get rows.now fault.row ≡ Some row → SaysFault fault.fault row.path (E.state err.old) (E.state err.new) result }
+    ensures { (row : SnapshotRow) → slice_get rows.now fault.row ≡ Some row → SaysFault fault.fault row.path (E.state err.old) (E.state err.new) result }
 {
     say_fault(err, fault.fault, rows[fault.row].path.as_str())
 }

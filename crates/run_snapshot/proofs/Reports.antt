@@ -12,9 +12,9 @@ use Rattle.feed_codec.specs.Refusal.{refusal}
 use Rattle.timetable.specs.Timetables.{Tables}
 use Rattle.rule_table.specs.Found.{Found}
 use Rattle.rule_history.specs.History.{entities_in, feed_limit, feed_limit-is}
-use Rattle.judging.specs.Judged.{snapshot_found}
-use Rattle.judging.specs.Seats.{seats}
-use Rattle.judging.proofs.OneSnapshot.{one_snapshot, seats_are, value_of}
+use Rattle.snapshot_keys.specs.judging.Judged.{snapshot_found}
+use Rattle.snapshot_keys.specs.judging.Seats.{seats}
+use Rattle.snapshot_keys.specs.judging.OneSnapshotProofs.{one_snapshot, seats_are, value_of}
 use Rattle.engine_laws.proofs.Seats.{none_is_lost}
 use Rattle.snapshot_keys.specs.Places.{Places, entity_at, placed}
 use Rattle.rt_report.specs.FindingLines.{finding_text, has_error}

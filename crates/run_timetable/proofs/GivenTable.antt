@@ -1,5 +1,5 @@
 -- The timetable that a command asks for, and a report with it.
-use Rattle.std.proofs.Common.{◌≡◌, ℕ, List, Bool, true, false, cond, refl, sym, ap, ◌∙◌, subst, Some, None, IfSome, Ok, Err}
+use Rattle.std.proofs.Common.{◌≡◌, ℕ, List, ◌++◌, append_assoc, codes, Bool, true, false, cond, refl, sym, ap, ◌∙◌, subst, Some, None, IfSome, Ok, Err}
 use Rattle.std.specs.declared.option.Option.{Option}
 use Rattle.rt_outside.specs.Causes.{Rose}
 use Rattle.rt_outside.specs.Sink.{SinkState}
@@ -15,14 +15,14 @@ use Rattle.run_base.specs.declared.input_fault.InputFault.{InputFault}
 use Rattle.run_base.specs.declared.status.Status.{Status}
 use Rattle.run_base.specs.Carried.{CarriesOut, exactly}
 use Rattle.run_base.specs.Counted.{Work}
-use Rattle.run_base.specs.Faults.{IsErrorText, says_refused}
+use Rattle.run_base.specs.Faults.{IsErrorText, refused_text, says_refused}
 use Rattle.run_base.specs.Inputs.{FailsAt, SaysInputFault, TellsInput}
 use Rattle.run_base.specs.Outside.{outside}
 use Rattle.run_base.specs.Report.{Report, refused_input}
 use Rattle.run_base.proofs.Carried.{carried_input, input_more}
 use Rattle.run_base.proofs.Chosen.{carried_within, each}
 use Rattle.run_base.proofs.Told.{error_text_more}
-use Rattle.run_timetable.specs.Timetables.{IsGiven, IsLoadText, IsTableFile, TellsLoadFault, accepted_tables, refusal_of, refusal_text, tables_had, timetable_of, timetable_refusal, unless_refused, with_timetable, work_unless_refused, work_with_timetable}
+use Rattle.run_timetable.specs.Timetables.{IsGiven, IsLoadText, IsTableFile, TellsLoadFault, accepted_tables, at_file, refusal_of, refusal_text, tables_had, timetable_of, timetable_refusal, unless_refused, with_timetable, work_unless_refused, work_with_timetable}
 
 none_refused : (contents : Contents) → timetable_refusal None contents ≡ None
 unfolding timetable_refusal
@@ -59,17 +59,27 @@ folder_given None folder t e is = tt
 folder_given (Some c) folder t e is = (accepted folder c (tables_in t) is, held folder c (tables_in t) is ∙ sym (had t true e))
 
 -- ---- one that isn't loaded
+-- a file and what is wrong there, as it is told on the error stream
+at_file_told : (folder : List ℕ) (file : File) (why : List ℕ) → refused_text (path folder file) why ≡ codes "refused: " ++ at_file folder file why ++ codes "\n"
+at_file_told folder file why = simp append_assoc
+
 -- the text of a refused one names a file of its folder
 load_text : (folder : List ℕ) (fault : LoadFault) → ((file : File) → fault ≡ load.ReadFault file → ⊥) → (fault ≡ load.Memory → ⊥) →
     IsErrorText (IsTableFile (Some folder)) (refusal_text folder fault)
-load_text folder (load.MissingFile file) read memory = says_refused (path folder file) _ (file, refl)
-load_text folder (load.MissingColumn file column) read memory = says_refused (path folder file) _ (file, refl)
-load_text folder (load.BadText file row) read memory = says_refused (path folder file) _ (file, refl)
-load_text folder (load.BadValue file row column) read memory = says_refused (path folder file) _ (file, refl)
-load_text folder (load.RepeatedKey file row) read memory = says_refused (path folder file) _ (file, refl)
-load_text folder (load.TooLarge file) read memory = says_refused (path folder file) _ (file, refl)
-load_text folder (load.ReadFault file) read memory = absurd (read file refl)
-load_text folder load.Memory read memory = absurd (memory refl)
+load_text folder fault read memory = by fault refl
+  where
+    at : (file : File) (why : List ℕ) → IsErrorText (IsTableFile (Some folder)) (codes "refused: " ++ at_file folder file why ++ codes "\n")
+    at file why = subst (IsErrorText (IsTableFile (Some folder))) (at_file_told folder file why) (says_refused (path folder file) why (file, refl))
+
+    by : (f : LoadFault) → fault ≡ f → IsErrorText (IsTableFile (Some folder)) (refusal_text folder f)
+    by (load.MissingFile file) is = at file _
+    by (load.MissingColumn file column) is = at file _
+    by (load.BadText file row) is = at file _
+    by (load.BadValue file row column) is = at file _
+    by (load.RepeatedKey file row) is = at file _
+    by (load.TooLarge file) is = at file _
+    by (load.ReadFault file) is = absurd (read file is)
+    by load.Memory is = absurd (memory is)
 
 -- what its fault is told as, by what holds of a failed read and of a refused text
 pub load_input : (folder : List ℕ) (fault : LoadFault) (why : InputFault) (failed refused : List ℕ → Type 0) → TellsLoadFault folder fault why →

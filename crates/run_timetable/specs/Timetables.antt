@@ -11,7 +11,7 @@ use Rattle.timetable.specs.declared.File.{File}
 use Rattle.timetable.specs.declared.timetable.Timetable.{Timetable}
 use Rattle.run_base.specs.declared.input_fault.InputFault.{InputFault}
 use Rattle.run_base.specs.Counted.{Work, no_work}
-use Rattle.run_base.specs.Faults.{IsErrorText, refused_text}
+use Rattle.run_base.specs.Faults.{IsErrorText}
 use Rattle.run_base.specs.Inputs.{TellsInput}
 use Rattle.run_base.specs.Report.{Report, refused_input}
 
@@ -25,17 +25,24 @@ IsTableFile (Some folder) name = (file : File) × (name ≡ path folder file)
 abbrev pub in_row : ℕ → List ℕ → List ℕ
 in_row row why = codes "row " ++ decimal row ++ codes ": " ++ why
 
--- the text of a fault of the timetable in a folder; a failed read and want of memory are no faults of what files hold, and
--- have texts of their own
+-- a file of the folder, and what is wrong there
+abbrev pub at_file : List ℕ → File → List ℕ → List ℕ
+at_file folder file why = path folder file ++ codes ": " ++ why
+
+-- Why the timetable in a folder is refused. A failed read and want of memory are no faults of what files hold, and have texts of their own.
+abbrev pub why_refused : List ℕ → LoadFault → List ℕ
+why_refused folder (MissingFile file) = at_file folder file (codes "missing file")
+why_refused folder (MissingColumn file column) = at_file folder file (codes "missing column " ++ name_of column)
+why_refused folder (BadText file row) = at_file folder file (in_row row (codes "not text"))
+why_refused folder (BadValue file row column) = at_file folder file (in_row row (codes "bad value in " ++ name_of column))
+why_refused folder (RepeatedKey file row) = at_file folder file (in_row row (codes "repeated key"))
+why_refused folder (TooLarge file) = at_file folder file (codes "too large")
+why_refused folder (ReadFault file) = []
+why_refused folder Memory = []
+
+-- as it is told on the error stream
 abbrev pub refusal_text : List ℕ → LoadFault → List ℕ
-refusal_text folder (MissingFile file) = refused_text (path folder file) (codes "missing file")
-refusal_text folder (MissingColumn file column) = refused_text (path folder file) (codes "missing column " ++ name_of column)
-refusal_text folder (BadText file row) = refused_text (path folder file) (in_row row (codes "not text"))
-refusal_text folder (BadValue file row column) = refused_text (path folder file) (in_row row (codes "bad value in " ++ name_of column))
-refusal_text folder (RepeatedKey file row) = refused_text (path folder file) (in_row row (codes "repeated key"))
-refusal_text folder (TooLarge file) = refused_text (path folder file) (codes "too large")
-refusal_text folder (ReadFault file) = []
-refusal_text folder Memory = []
+refusal_text folder fault = codes "refused: " ++ why_refused folder fault ++ codes "\n"
 
 -- the text of the first fault of a timetable, if it has one
 abbrev pub refusal_of : List ℕ → Result Tables LoadFault → Option (List ℕ)

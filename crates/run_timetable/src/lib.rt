@@ -10,4 +10,4 @@ mod loading;
 mod refusal;
 
 pub use loading::load_given;
-pub use refusal::load_fault;
+pub use refusal::{load_fault, why_refused};

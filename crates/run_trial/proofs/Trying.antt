@@ -14,7 +14,7 @@ use Rattle.rule_history.specs.History.{Snapshot}
 use Rattle.engine_laws.specs.Computed.{delta_after, standings}
 use Rattle.engine_laws.specs.Delta.{Delta, IsDelta}
 use Rattle.engine_laws.proofs.Computed.{delta_is_computed, list_is_computed}
-use Rattle.follow_engine.specs.Engines.{engine_data}
+use Rattle.run_rows.specs.follow_engine.Engines.{engine_data}
 use Rattle.trial_feed.specs.Files.{trial_contents}
 use Rattle.trial_feed.specs.Messages.{feed_of, moment_of}
 use Rattle.trial_feed.specs.Moving.{Moving, advanced, begun}

@@ -15,7 +15,7 @@ use Rattle.run_base.specs.declared.status.Status.TheVariants as answer
 use Rattle.run_trial.specs.declared.sums.Sums.{Sums}
 use Rattle.run_trial.specs.declared.summing.TrialEnd.{TrialEnd}
 use Rattle.engine_laws.specs.Standings.{StandsFor}
-use Rattle.follow_engine.specs.Engines.{engine_data}
+use Rattle.run_rows.specs.follow_engine.Engines.{engine_data}
 use Rattle.run_base.specs.Counted.{Work}
 use Rattle.run_base.specs.Report.{Report}
 use Rattle.run_rows.specs.Counted.{history_work}

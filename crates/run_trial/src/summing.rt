@@ -1,7 +1,7 @@
 //! The snapshots of the trial, taken one after the other and summed up.
 ghost use Rattle.std.specs.Prelude.{◌≡◌, ◌<◌, None, List, OnOk, Option, IfOk, length};
 ghost use Rattle.feed_codec.specs.Refusal.{refusal};
-ghost use Rattle.follow_engine.specs.Engines.{engine_data};
+ghost use Rattle.run_rows.specs.follow_engine.Engines.{engine_data};
 ghost use Rattle.rule_history.specs.Answered.{tables_of};
 ghost use Rattle.rule_history.specs.Changed.{with};
 ghost use Rattle.rule_history.specs.History.{Snapshot};
@@ -14,8 +14,8 @@ ghost use Rattle.run_trial.specs.Tried.{IsSummedUp, history_text, numbered, summ
 use crate::sums::{Sums, sum};
 use feed_codec::CodecFault;
 use feed_stream::{Kept, Splitter};
-use follow_engine::Engine;
 use rt_outside::Steps;
+use run_rows::Engine;
 use snapshot_lines::{TrialSums, trial_line};
 use std::alloc::{AllocError, Global};
 use std::sync::ledger::Ledger;

@@ -1,9 +1,9 @@
 //! Sums over snapshots.
 ghost use Rattle.std.specs.Prelude.{◌≡◌, ◌+◌, [], IfOk};
-ghost use Rattle.follow_engine.specs.Deltas.{delta_value};
+ghost use Rattle.run_rows.specs.follow_engine.Deltas.{delta_value};
 ghost use Rattle.run_trial.specs.Tried.{added, sums_over};
 
-use follow_engine::Delta;
+use run_rows::Delta;
 use std::alloc::AllocError;
 
 /// Sums over the snapshots that were taken: how many they are, what they opened and closed, and how many entities were judged

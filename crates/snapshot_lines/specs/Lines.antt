@@ -7,6 +7,7 @@ use Rattle.feed_values.specs.declared.required.Required.TheVariants as required
 use Rattle.feed_codec.specs.declared.refusal.Refusal.{Refusal}
 use Rattle.feed_codec.specs.declared.refusal.Reason.{Reason}
 use Rattle.feed_codec.specs.declared.refusal.Reason.TheVariants as reason
+use Rattle.snapshot_lines.specs.declared.exchange.Exchanged.{Exchanged}
 use Rattle.snapshot_lines.specs.declared.snapshot.Accepted.{Accepted}
 use Rattle.snapshot_lines.specs.declared.trial.TrialSums.{TrialSums}
 
@@ -61,6 +62,22 @@ refused row refusal = object
     (member (codes "line") (string (codes "refused"))
     (member (codes "reason") (string (reason_name refusal.reason))
     (member (codes "row") (count row) no_members))))
+
+-- ---- a timetable that takes the place of another
+-- accepted: its row, the entities that stand then, and how many of these were tested again
+abbrev pub exchanged : Exchanged → Data
+exchanged it = object
+    (member (codes "entities") (count it.entities)
+    (member (codes "line") (string (codes "timetable"))
+    (member (codes "retested") (count it.retested)
+    (member (codes "row") (count it.row) no_members))))
+
+-- refused: its row, and why
+abbrev pub refused_timetable : ℕ → List ℕ → Data
+refused_timetable row why = object
+    (member (codes "line") (string (codes "refused_timetable"))
+    (member (codes "row") (count row)
+    (member (codes "text") (string why) no_members)))
 
 -- ---- the trial
 -- its snapshots, the findings that stand after them, and of all snapshots together: what they opened and closed, and how many

@@ -1,16 +1,26 @@
-//! Asks of a list of snapshots.
+//! Asks of a list of snapshots and timetables.
 
 use crate::held::Held;
 use cases::{say, word};
-use feed_list::{ListFault, ListRow, read_list};
+use feed_list::{ListFault, ListRow, SnapshotRow, read_list};
 use feed_values::Items;
 use rt_outside::Files;
 use std::alloc::{AllocError, Global};
 
-fn say_row(alloc: Global, row: &ListRow, out: &mut Vec<u8>) -> Result<(), AllocError> {
+fn say_snapshot(alloc: Global, row: &SnapshotRow, out: &mut Vec<u8>) -> Result<(), AllocError> {
     let path = row.path.as_str();
     let line = format!(in alloc; "{} {} {path}", row.feed, row.moment)?;
     say(out, line.as_str())
+}
+
+fn say_row(alloc: Global, row: &ListRow, out: &mut Vec<u8>) -> Result<(), AllocError> {
+    match row {
+        ListRow::Snapshot(row) => say_snapshot(alloc, row, out),
+        ListRow::Timetable(folder) => {
+            let line = format!(in alloc; "timetable {}", folder.as_str())?;
+            say(out, line.as_str())
+        }
+    }
 }
 
 fn say_rows(alloc: Global, rows: &[ListRow], out: &mut Vec<u8>) -> Result<(), AllocError> {

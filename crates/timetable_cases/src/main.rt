@@ -1,10 +1,11 @@
 //! Answers cases of files and sinks, of days, of timetables and of lists of snapshots: texts in data/, which the arguments name.
 //!
-//! `held` has the files that a case names, `days` answers asks of days, `tables` and `trips` those of a timetable, `lists` those of a
-//! list, `reading` and `writing` those of files and sinks. `drip`, `counted` and `lengthened` are files that give their bytes in ways of
+//! `held` has the files that a case names, `days` answers asks of days, `tables` and `trips` those of a timetable, `agreeing` those of two,
+//! `lists` those of a list, `reading` and `writing` those of files and sinks. `drip`, `counted` and `lengthened` are files that give their bytes in ways of
 //! their own.
 #![tactic(auto)]
 
+mod agreeing;
 mod counted;
 mod days;
 mod drip;
@@ -39,6 +40,7 @@ impl Asked for Answers<'_> {
         if self.held.take(&words, given)?
             || days::answer(self.alloc, &words, answer)?
             || tables::answer(self.alloc, &self.held, &words, answer)?
+            || agreeing::answer(self.alloc, &self.held, &words, given, answer)?
             || lists::answer(self.alloc, &self.held, &words, answer)?
             || reading::answer(self.rt, &self.held, &words, answer)?
             || writing::answer(self.rt, &self.held, &words, given, answer)?

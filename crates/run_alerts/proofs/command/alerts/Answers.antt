@@ -1,7 +1,7 @@
 use Rattle.std.proofs.Common.{ap, subst}
 use Rattle.std.specs.List.{Contains}
 use Rattle.rule_history.specs.Answered.{tables_of}
-use Rattle.follow_engine.specs.Entities.{entities_held}
+use Rattle.run_rows.specs.follow_engine.Entities.{entities_held}
 use Rattle.run_base.specs.Carried.{CarriesOut, exactly}
 use Rattle.run_base.specs.Counted.{IsCounted, counters}
 use Rattle.run_base.specs.Outside.{outside}

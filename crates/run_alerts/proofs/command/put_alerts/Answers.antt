@@ -2,7 +2,7 @@ use Rattle.std.proofs.Common.{ap, subst, ◌∙◌}
 use Rattle.std.specs.Io.KnownBytes.{append_known}
 use Rattle.rt_outside.proofs.Appends.{AppendsPrefix-nothing, AppendsPrefix-whole}
 use Rattle.rt_outside.specs.Sink.{AppendsPrefix}
-use Rattle.follow_engine.specs.Entities.{entities_held}
+use Rattle.run_rows.specs.follow_engine.Entities.{entities_held}
 use Rattle.run_alerts.specs.Alerts.{alerts_text}
 use Rattle.run_alerts.proofs.command.put_alerts.Goals as goal
 

@@ -1,5 +1,5 @@
 use Rattle.std.proofs.Common.{length, refl}
-use Rattle.follow_engine.specs.Entities.{entities_held}
+use Rattle.run_rows.specs.follow_engine.Entities.{entities_held}
 use Rattle.run_alerts.proofs.Given.{text_is}
 use Rattle.run_alerts.proofs.in_force.alerts_text.Goals as goal
 

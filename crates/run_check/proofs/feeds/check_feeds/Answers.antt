@@ -1,5 +1,5 @@
 use Rattle.rule_history.specs.Answered.{tables_of}
-use Rattle.follow_engine.specs.Engines.{engine_data}
+use Rattle.run_rows.specs.follow_engine.Engines.{engine_data}
 use Rattle.run_check.specs.Check.{all_findings, findings_ending}
 use Rattle.run_check.proofs.Together.{findings_held}
 use Rattle.run_base.proofs.Counted.{counted_whole, counted_part}

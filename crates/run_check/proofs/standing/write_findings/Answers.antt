@@ -3,7 +3,7 @@ use Rattle.std.specs.Io.KnownBytes.{append_known}
 use Rattle.rt_outside.proofs.Appends.{AppendsPrefix-whole}
 use Rattle.rt_outside.specs.Sink.{AppendsPrefix}
 use Rattle.rule_history.specs.Standing.{Standing}
-use Rattle.follow_engine.specs.Engines.{engine_data}
+use Rattle.run_rows.specs.follow_engine.Engines.{engine_data}
 use Rattle.rt_report.specs.FindingLines.{all_text, any_error}
 use Rattle.run_check.proofs.Standings.{Waits, error_done, error_more, handed_out, none_left, waits_cut, waits_done, waits_more, waits_moved, waits_none, waits_part}
 use Rattle.run_check.proofs.standing.write_findings.Goals as goal

@@ -1,5 +1,5 @@
 use Rattle.std.proofs.Common.{◌≡◌, ◌≤◌, ◌||◌}
-use Rattle.follow_engine.specs.Engines.{engine_data}
+use Rattle.run_rows.specs.follow_engine.Engines.{engine_data}
 use Rattle.rt_report.specs.FindingLines.{all_text, any_error}
 use Rattle.run_check.proofs.Standings.{Waits}
 use Rattle.run_check.proofs.standing.write_findings.Given as goal

@@ -3,7 +3,7 @@ use Rattle.std.proofs.lemmas.Result.{IfErr-weaker}
 use Rattle.std.specs.List.{Contains}
 use Rattle.rt_outside.proofs.Appends.{AppendsPrefix-nothing}
 use Rattle.rt_outside.specs.Store.{contents_told}
-use Rattle.feed_list.specs.Lists.{IsWithinLimits}
+use Rattle.run_rows.specs.Rows.{AreWithinLimits}
 use Rattle.rule_history.specs.Answered.{tables_of}
 use Rattle.run_base.proofs.Carried.{carried_memory}
 use Rattle.run_base.proofs.Chosen.{all}
@@ -15,7 +15,7 @@ use Rattle.run_rows.proofs.FileRows.{within_limits}
 use Rattle.run_rows.proofs.files.take_files.Goals as goal
 
 pub take_rows-requires : goal.take_rows-requires
-take_rows-requires g c = subst IsWithinLimits (sym (c.as_slice.ensures ∙ c.in-Ok.ensures)) (within_limits c.args.moment c.args.names.now c.requires)
+take_rows-requires g c = subst AreWithinLimits (sym (c.as_slice.ensures ∙ c.in-Ok.ensures)) (within_limits c.args.moment c.args.names.now c.requires)
 
 -- a fault was told while rows were taken
 pub returns-in-Ok-clause-cut_off : goal.returns-in-Ok-clause-cut_off

@@ -6,7 +6,7 @@ use Rattle.rt_outside.specs.Sink.{AppendsPrefix}
 use Rattle.rt_outside.proofs.Appends.{AppendsPrefix-whole}
 use Rattle.rule_history.specs.Answered.{tables_of}
 use Rattle.rule_table.specs.Found.{Found}
-use Rattle.judging.specs.Judged.{snapshot_found}
+use Rattle.snapshot_keys.specs.judging.Judged.{snapshot_found}
 use Rattle.rt_report.specs.FindingLines.{finding_text}
 use Rattle.run_snapshot.proofs.Sent.{sends_all, sends_last}
 use Rattle.run_snapshot.proofs.findings.put_findings.Goals as goal

@@ -4,8 +4,8 @@ use Rattle.std.proofs.lemmas.Map.Iter.{rest_more}
 use Rattle.feed_values.specs.Views.{feed_header_value}
 use Rattle.rule_history.specs.Answered.{Heads, tables_of}
 use Rattle.rule_table.specs.Found.{Found}
-use Rattle.judging.specs.Whole.{entity_found, rows_alone}
-use Rattle.judging.specs.Judged.{first_heads, found_at_seats}
+use Rattle.snapshot_keys.specs.judging.Whole.{entity_found, rows_alone}
+use Rattle.snapshot_keys.specs.judging.Judged.{first_heads, found_at_seats}
 use Rattle.snapshot_keys.specs.Places.{AreWithin, entity_at, placed}
 use Rattle.run_snapshot.proofs.Sent.{Left, left_all, left_next, left_cut, at_err}
 use Rattle.run_snapshot.proofs.findings.send_entities.Goals as goal

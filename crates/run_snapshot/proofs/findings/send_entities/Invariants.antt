@@ -1,7 +1,7 @@
 use Rattle.std.proofs.Common.{◌≡◌, ◌+◌, ◌*◌, ◌≤◌, length}
 use Rattle.feed_values.specs.Views.{feed_header_value}
 use Rattle.rule_history.specs.Answered.{tables_of}
-use Rattle.judging.specs.Judged.{first_heads, found_at_seats}
+use Rattle.snapshot_keys.specs.judging.Judged.{first_heads, found_at_seats}
 use Rattle.snapshot_keys.specs.Places.{AreWithin, placed}
 use Rattle.run_snapshot.proofs.Sent.{Left}
 use Rattle.run_snapshot.proofs.findings.send_entities.Given as goal

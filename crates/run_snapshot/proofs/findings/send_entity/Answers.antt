@@ -4,9 +4,9 @@ use Rattle.feed_values.specs.Views.{entity_value, feed_header_value}
 use Rattle.rule_history.specs.Answered.{Heads, tables_of}
 use Rattle.rule_table.specs.Found.{Found}
 use Rattle.rule_table.specs.Marked.{marked}
-use Rattle.judging.specs.Judged.{first_answer, first_heads}
-use Rattle.judging.specs.Ruled.{entity_count}
-use Rattle.judging.specs.Whole.{entity_found, rows_alone}
+use Rattle.snapshot_keys.specs.judging.Judged.{first_answer, first_heads}
+use Rattle.snapshot_keys.specs.judging.Ruled.{entity_count}
+use Rattle.snapshot_keys.specs.judging.Whole.{entity_found, rows_alone}
 use Rattle.snapshot_keys.specs.Places.{entity_at}
 use Rattle.snapshot_keys.proofs.OneMore.{read_payload}
 use Rattle.run_snapshot.specs.Sending.{Sends, SendsPart}

@@ -4,7 +4,7 @@ use Rattle.rule_history.specs.Answered.{tables_of}
 use Rattle.rule_table.specs.Found.{Found}
 use Rattle.rule_table.specs.Marked.{marked}
 use Rattle.run_snapshot.proofs.Marks.{marked_from}
-use Rattle.judging.specs.Judged.{first_answer}
+use Rattle.snapshot_keys.specs.judging.Judged.{first_answer}
 use Rattle.run_snapshot.specs.Sending.{Sends, SendsPart}
 use Rattle.run_snapshot.proofs.Sent.{Left, left_next, left_part, left_cut, at_err}
 use Rattle.run_snapshot.proofs.findings.send_marked.Goals as goal

@@ -2,7 +2,7 @@ use Rattle.std.proofs.Common.{◌≤◌, drop}
 use Rattle.feed_values.specs.Views.{entity_value, feed_header_value}
 use Rattle.rule_history.specs.Answered.{tables_of}
 use Rattle.rule_table.specs.Marked.{marked}
-use Rattle.judging.specs.Judged.{first_answer}
+use Rattle.snapshot_keys.specs.judging.Judged.{first_answer}
 use Rattle.run_snapshot.proofs.Sent.{Left}
 use Rattle.run_snapshot.proofs.findings.send_marked.Given as goal
 

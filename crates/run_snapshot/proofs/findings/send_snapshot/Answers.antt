@@ -2,10 +2,10 @@ use Rattle.std.proofs.Common.{◌≡◌, ◌∙◌, ap, arith, sym, subst}
 use Rattle.feed_values.specs.Snapshot.{entities_of, header_of}
 use Rattle.feed_values.specs.Views.{feed_header_value}
 use Rattle.rule_history.specs.Answered.{Heads, tables_of}
-use Rattle.judging.specs.Seats.{Rising, seats}
-use Rattle.judging.specs.Whole.{header_found, rows_alone}
-use Rattle.judging.specs.Judged.{first_heads, seat_rows, found_at_seats, snapshot_found}
-use Rattle.judging.proofs.OneSnapshot.{seats_rise}
+use Rattle.snapshot_keys.specs.judging.Seats.{Rising, seats}
+use Rattle.snapshot_keys.specs.judging.Whole.{header_found, rows_alone}
+use Rattle.snapshot_keys.specs.judging.Judged.{first_heads, seat_rows, found_at_seats, snapshot_found}
+use Rattle.snapshot_keys.specs.judging.OneSnapshotProofs.{seats_rise}
 use Rattle.rt_report.specs.FindingLines.{AddsLines}
 use Rattle.run_snapshot.specs.Sending.{Sends, SendsPart}
 use Rattle.run_snapshot.proofs.Sent.{sends_behind, part_behind, more_ok, more_err, none_sent}

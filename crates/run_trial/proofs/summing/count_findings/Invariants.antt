@@ -1,5 +1,5 @@
 use Rattle.std.proofs.Common.{◌≡◌, ◌+◌, length}
-use Rattle.follow_engine.specs.Engines.{engine_data}
+use Rattle.run_rows.specs.follow_engine.Engines.{engine_data}
 use Rattle.run_trial.proofs.summing.count_findings.Given as goal
 
 -- how many were counted, and how many are left

@@ -1,5 +1,5 @@
 use Rattle.std.proofs.Common.{subst}
-use Rattle.follow_engine.specs.Deltas.{delta_value}
+use Rattle.run_rows.specs.follow_engine.Deltas.{delta_value}
 use Rattle.rule_history.specs.Changed.{with}
 use Rattle.rule_history.specs.History.{Snapshot}
 use Rattle.run_base.specs.Counted.{RoseAtMost, RoseBy, counters}

@@ -1,0 +1,4 @@
+pub mod Listed
+pub mod Stops
+pub mod Taken
+pub mod Laws
