@@ -22,6 +22,7 @@ import threading
 import time
 import urllib.parse
 import urllib.request
+import zipfile
 
 TOP = pathlib.Path(__file__).resolve().parent.parent
 START = 1700006250  # the sixth moment is midnight in UTC
@@ -29,7 +30,7 @@ MOMENTS = [START + 30 * n for n in range(10)]
 UNTRIED = ("PATH=/usr/local/bin", "0 6 * * *", "printf '%s\\n' city coast | parallel --sshloginfile", "CREATE VIEW finding AS")
 SHOWN = ("archive/city/trips/",)  # blocks that are no commands
 NEEDS = {"rt_summary": "rt_summary", "prometheus-node-exporter": "prometheus-node-exporter", "promtool": "promtool", "parallel": "parallel", "pv": "pv", "sqlite3": "sqlite3", "python3 year.py": "aws moto_server dask-scheduler",
-         "aws ": "aws moto_server"}
+         "aws ": "aws moto_server", "unzip ": "unzip"}
 faults = []
 
 
@@ -109,6 +110,14 @@ def timetable(folder, count=20):
         (folder / name).write_text("\n".join(rows) + "\n")
 
 
+def publish(work):
+    """A publication that lacks the trip T4, has T5 on the route of T6, and is else what gtfs/city is."""
+    with zipfile.ZipFile(work / "gtfs.zip", "w") as packed:
+        for file in sorted((work / "gtfs/city").iterdir()):
+            lines = [line for line in file.read_text().splitlines() if "T4" not in line.replace(",", " ").split()]
+            packed.writestr(file.name, "".join(line + "\n" for line in lines).replace("R2,daily,T5\n", "R0,daily,T5\n"))
+
+
 # ---- what the scripts write, counted a second time
 def lines_of(path):
     data = gzip.open(path).read() if path.suffix == ".gz" else path.read_bytes()
@@ -184,6 +193,19 @@ def check_joined(work, run):
         for key in ("tested", "paired", "bounded", "peaked"):
             line.pop(key, None)
     expect("days joined", joined == whole and len(joined) > 50, True)
+
+
+def check_published(work):
+    """The publication stands behind all snapshots. Of 20 trip updates and 20 positions two of each name the trips that it changes. The last update of T4 gives the route R9, and
+    that of T5 the one that it had before; positions give no route."""
+    lines = lines_of(work / "published.report")
+    behind = lines[next(n for n, line in enumerate(lines) if line["line"] == "timetable"):]
+    rows = (work / "published.list").read_text().splitlines()
+    expect("the timetable's line", behind[0], {"entities": 40, "line": "timetable", "retested": 4, "row": len(rows) - 1})
+    expect("its row", rows[-1].startswith("timetable,,published/"), True)
+    changed = {kind: [(line["rule"], line["feed"], line["id"]) for line in behind if line["line"] == kind] for kind in ("opened", "closed")}
+    expect("what it opens", changed["opened"], [("E003", 0, "trip-4"), ("E035", 0, "trip-5"), ("E003", 1, "bus-4")])
+    expect("what it closes", changed["closed"], [("E035", 0, "trip-4")])
 
 
 def check_counts(work, run):
@@ -307,6 +329,8 @@ def run_page(work, run, verbose):
         if is_loud or verbose or ran.returncode > 2 and ran.returncode != 123:
             print(f"$ {block}\n{ran.stdout[:1500]}{ran.stderr[:800]}")
         after.get(" ".join(first.split()[:2]), lambda: None)()
+        if "published.list > published.report" in block:
+            check_published(work)
         if "tools/days join" in block:
             check_joined(work, run)
         if first.startswith("sqlite3 findings.db < views.sql"):
@@ -334,6 +358,7 @@ def main():
             for step, moment in enumerate(MOMENTS):
                 (work / "archive/coast" / name / f"{moment}.pb").write_bytes(make(moment, step))
             (work / f"{name}.pb").write_bytes(make(MOMENTS[0], 0))
+        publish(work)
         (work / "alerts.pb").write_bytes(alerts(MOMENTS[0]))
         for n in range(20):
             (work / "part").mkdir(exist_ok=True)

@@ -7,11 +7,13 @@ and runs the commands that read it. A case is made of the seed and its number al
 - a run that ends by a signal, takes more than 20 seconds, or ends with another status than its command may: outputs can be written and 4 GiB of
   addresses are there, so write faults and want of memory are wrong too, and so is a read fault of a file that Python reads;
 - lines that aren't JSON in the one form that they have, rows that aren't CSV, or a text on standard error that isn't the status's;
-- a status that isn't that of the lines: 1 exactly where a line is `refused` or a finding of an error;
+- a status that isn't that of the lines: 1 exactly where a line is `refused`, `refused_timetable` or a finding of an error;
 - alerts that change before the moment that is told for it, or files that `alerts` takes otherwise than `check`;
 - a snapshot that `show`, which reads it whole, refuses otherwise than `check`, which reads it in pieces; one that is accepted, and whose JSON is
   encoded to bytes that are refused or shown otherwise; a union without all entities of its feeds;
-- a finding of `check` that `verify` doesn't confirm, and a list of the same snapshot that `follow` judges otherwise.
+- a finding of `check` that `verify` doesn't confirm, and a list of the same snapshot that `follow` judges otherwise;
+- a timetable that a list brings and that is refused otherwise than `--timetable` refuses it, one that concerns no entity and changes something, and findings that stand
+  at the end of a list otherwise than where its last accepted timetable was in force from the start.
 
 The program is crates/rt_command/out/rt_command by default, for 60 seconds, with the seed 1. What was wrong is printed with its case, whose files are
 kept, and the status is then 1. The last line counts runs; SIGTERM ends it early.
@@ -86,7 +88,8 @@ def corpus():
         "snapshot": snapshots,
         "form": forms,
         "report": [b"".join(reports), *reports],
-        "list": [b"0,1700000000,a\n1,1700000030,b\n0,1700000060,a\n", b'15,0,"a"\r\n15,18446744073709551615,b\r\n'],
+        "list": [b"0,1700000000,a\n1,1700000030,b\n0,1700000060,a\n", b'15,0,"a"\r\n15,18446744073709551615,b\r\n',
+                 b"0,1700000000,a\ntimetable,,published\n1,1700000030,b\ntimetable,,none\n"],
         "zone": [zone(), b"EST5EDT,M3.2.0,M11.1.0"],
         "table": [read("timetable/" + name) for name in TABLES],
     }
@@ -309,7 +312,7 @@ def reported(words):
     """The lines of a run whose status has to be theirs."""
     ran = run(words)
     lines = lines_of(ran)
-    is_error = any(line["line"] == "refused" or line["line"] in ("finding", "opened") and line["level"] in "EX" for line in lines)
+    is_error = any(line["line"] in ("refused", "refused_timetable") or line["line"] in ("finding", "opened") and line["level"] in "EX" for line in lines)
     if ran.status in (0, 1) and ran.status != is_error:
         raise Wrong(f"{words} ended with {ran.status}")
     return ran, lines
@@ -390,11 +393,13 @@ def ask_alerts(chance, held):
 def follow_list(chance, held):
     put("a", changed(chance, held, "snapshot"))
     put("b", changed(chance, held, "snapshot"))
+    folder = put_timetable(chance, held, "published")
     reported(["follow", "--timetable", os.path.join(EXAMPLES, "timetable"), "--list", put("list", changed(chance, held, "list"))])
+    shutil.rmtree(os.path.join(FOLDER, folder))
 
 
-def read_timetable(chance, held):
-    folder = f"t{chance.randrange(1 << 30)}"
+def put_timetable(chance, held, folder):
+    """A timetable of which one file is changed."""
     for name, data in zip(TABLES, held["table"]):
         put(f"{folder}/{name}", data)
     place = chance.randrange(len(TABLES))
@@ -402,6 +407,56 @@ def read_timetable(chance, held):
     for _ in range(chance.choice([1, 1, 2, 4])):
         data = change_text(chance, data, held["table"])
     put(f"{folder}/{TABLES[place]}", data)
+    return folder
+
+
+def standing(lines):
+    """What stands at the end, by place."""
+    found = {}
+    for line in lines:
+        place = tuple(line.get(key) for key in ("feed", "id", "occurrence", "rule", "path"))
+        if line["line"] == "opened":
+            found[place] = line["facts"]
+        elif line["line"] == "closed":
+            del found[place]
+    return found
+
+
+def follow_published(chance, held):
+    """Timetables that come between snapshots, against the same timetables by themselves."""
+    first, rows, folders = os.path.join(EXAMPLES, "timetable"), [], {}
+    for row in range(chance.randrange(2, 7)):
+        if chance.random() < 0.5:
+            folders[row] = put_timetable(chance, held, f"t{chance.randrange(1 << 30)}")
+            rows.append(f"timetable,,{folders[row]}")
+        else:
+            put(f"s{row}", changed(chance, held, "snapshot"))
+            rows.append(f"{chance.randrange(2)},{1700000000 + 30 * row},s{row}")
+    try:
+        _, lines = reported(["follow", "--timetable", first, "--list", put("list", "\n".join(rows).encode())])
+        told = {line["row"]: line for line in lines if line["line"] in ("timetable", "refused_timetable")}
+        if sorted(told) != sorted(folders):
+            raise Wrong(f"{sorted(folders)} aren't the rows of timetables")
+        for row, folder in folders.items():
+            alone = run(["check", "--timetable", folder, "--now", NOW, os.path.join(EXAMPLES, "header.pb")])
+            text = told[row].get("text")
+            if alone.err != (b"" if text is None else f"refused: {text}\n".encode()):
+                raise Wrong(f"{folder} is told as {told[row]}, and by itself as {alone.err}")
+            first = folder if text is None else first
+        for before, line in zip(lines, lines[1:]):
+            if before["line"] == "timetable" and before["retested"] == 0 and line["line"] in ("opened", "closed"):
+                raise Wrong("a timetable concerns no entity and changes something")
+        snapshots = [row for row in rows if not row.startswith("timetable")]
+        _, again = reported(["follow", "--timetable", first, "--list", put("list", "\n".join(snapshots).encode())])
+        if standing(again) != standing(lines):
+            raise Wrong(f"what stands at the end of {rows} isn't what stands by {first}")
+    finally:
+        for folder in folders.values():
+            shutil.rmtree(os.path.join(FOLDER, folder))
+
+
+def read_timetable(chance, held):
+    folder = put_timetable(chance, held, f"t{chance.randrange(1 << 30)}")
     path = put("a", changed(chance, held, "snapshot"))
     try:
         reported(["check", "--timetable", folder, "--now", NOW, path])
@@ -443,7 +498,7 @@ def random_words(chance, held):
 
 
 COMMANDS = ["check", "follow", "show", "encode", "predict", "merge", "verify", "alerts", "trial"]
-KINDS = [check_snapshot] * 4 + [show_snapshot] * 3 + [encode_form, encode_form, check_several, follow_list, follow_list, read_timetable, read_timetable, predict_zone, verify_report, ask_alerts, ask_alerts, random_words]
+KINDS = [check_snapshot] * 4 + [show_snapshot] * 3 + [encode_form, encode_form, check_several, follow_list, follow_list, follow_published, read_timetable, read_timetable, predict_zone, verify_report, ask_alerts, ask_alerts, random_words]
 
 
 def main():

@@ -6,11 +6,12 @@
 PROGRAM is crates/rt_command/out/rt_command by default. COUNT random feeds (300 by default) are made in the JSON form of
 docs/json.md, from a few ids, times and numbers, so that rules break often; `encode` writes their bytes, and `check` judges them,
 with and without the small timetable below. A third as many histories of one feed are followed, for the rules that look back and for
-what an accepted line counts. It ends with how many reports were the same and how often each rule was found.
+what an accepted line counts; in every other one timetables are published between the snapshots, some of which are refused. It ends with how many reports were the same and how often
+each rule was found.
 
 The rules stand here as one reads them in docs/rules.md: a function each, with no table and no code of the program.
 """
-import collections, json, os, random, re, subprocess, sys, tempfile
+import collections, json, os, random, re, shutil, subprocess, sys, tempfile
 
 MOMENT = 1700000010
 TOWN = {
@@ -27,9 +28,26 @@ TOWN = {
 }
 
 
+# What a publication changes, where the text is there: a file, a text in it, and what stands in its place.
+EDITS = [
+    ("trips.txt", "R1,WK,T1,0\n", "R2,WK,T1,0\n"), ("trips.txt", "WK,T1,0\n", "WK,T1,1\n"), ("trips.txt", "R1,WK,T2,\n", ""), ("trips.txt", "R2,WK,F1,\n", ""),
+    ("trips.txt", "R1,WK,G1,\n", "R1,WK,X9,0\nR1,WK,G1,\n"), ("stop_times.txt", "T1,08:10:00,08:11:00,S2,2\n", "T1,08:12:00,08:13:00,S2,2\n"),
+    ("stop_times.txt", "T1,08:10:00,08:11:00,S2,2\n", "T1,08:10:00,08:11:00,S3,2\n"), ("stop_times.txt", "T2,25:10:00,,S2,2\n", "T2,25:10:00,25:10:00,S2,3\n"),
+    ("stop_times.txt", "L1,,09:00:00,S1,5\n", "L1,09:00:00,09:00:00,S3,5\n"), ("stop_times.txt", "T1,08:00:00,08:00:00,S1,1\n", "T1,08:10:00,08:10:00,S1,1\n"),
+    ("frequencies.txt", "F1,08:00:00,09:00:00,600,1\n", "F1,08:00:00,09:00:00,600,0\n"), ("frequencies.txt", "G1,07:00:00,09:00:00,600,0\n", ""),
+    ("stops.txt", "location_type\n", "location_type\nA0,\nZ,1\n"), ("stops.txt", "P1,1\n", "P1,0\n"), ("stops.txt", "S2,0\nS3,\n", "S3,\nS2,\n"), ("stops.txt", "S1,\n", "S1,2\n"),
+    ("routes.txt", "R2\n", "R9\n"), ("routes.txt", "R2\n", ""), ("agency.txt", "A1\n", "A1\nA2\n"), ("agency.txt", "A1\n", "A2\n"), ("calendar.txt", "20231231", "20241231"),
+]
+# A publication that is refused: the same, and its first fault. Without a text the file isn't there.
+FAULTS = [
+    ("stop_times.txt", "T1,08:10:00,08:11:00", "T1,08:61:00,08:11:00", "row 3: bad value in arrival_time"), ("agency.txt", "A1\n", "A1\nA1\n", "row 3: repeated key"),
+    ("routes.txt", "route_id\n", "route\n", "missing column route_id"), ("trips.txt", None, None, "missing file"), ("frequencies.txt", ",900,0", ",0,0", "row 3: bad value in headway_secs"),
+]
+
+
 # ---- the timetable
-def rows(name):
-    lines = TOWN[name].splitlines()
+def rows(files, name):
+    lines = files[name].splitlines()
     return [dict(zip(lines[0].split(","), line.split(","))) for line in lines[1:]]
 
 
@@ -49,17 +67,29 @@ def is_date(text):
 
 
 class Table:
-    def __init__(self):
-        self.agencies = {r["agency_id"] for r in rows("agency.txt")}
-        self.stops = {r["stop_id"]: int(r["location_type"] or 0) for r in rows("stops.txt")}
-        self.routes = {r["route_id"] for r in rows("routes.txt")}
-        self.trips = {r["trip_id"]: r for r in rows("trips.txt")}
+    """The timetable of these files. Rows whose trip isn't in trips.txt have no effect."""
+
+    def __init__(self, files):
+        self.agencies = {r["agency_id"] for r in rows(files, "agency.txt")}
+        self.stops = {r["stop_id"]: int(r["location_type"] or 0) for r in rows(files, "stops.txt")}
+        self.routes = {r["route_id"] for r in rows(files, "routes.txt")}
+        self.trips = {r["trip_id"]: r for r in rows(files, "trips.txt")}
         self.times = collections.defaultdict(dict)
-        for r in rows("stop_times.txt"):
-            self.times[r["trip_id"]][int(r["stop_sequence"])] = r
+        for r in rows(files, "stop_times.txt"):
+            if r["trip_id"] in self.trips:
+                self.times[r["trip_id"]][int(r["stop_sequence"])] = r
         self.frequencies = collections.defaultdict(list)
-        for r in rows("frequencies.txt"):
-            self.frequencies[r["trip_id"]].append(r)
+        for r in rows(files, "frequencies.txt"):
+            if r["trip_id"] in self.trips:
+                self.frequencies[r["trip_id"]].append(r)
+
+    def said_of_trip(self, trip):
+        """Its route, its direction, its stop times and its headways, or none where it isn't known."""
+        if trip not in self.trips:
+            return None
+        times = [(n, r["stop_id"], seconds(r["arrival_time"]), seconds(r["departure_time"])) for n, r in sorted(self.times.get(trip, {}).items())]
+        headways = [(seconds(r["start_time"]), seconds(r["end_time"]), int(r["headway_secs"]), int(r["exact_times"] or 0)) for r in self.frequencies.get(trip, [])]
+        return self.trip_route(trip), self.trip_direction(trip), times, headways
 
     def trip_known(self, trip): return int(trip in self.trips)
     def route_known(self, route): return int(route in self.routes)
@@ -355,6 +385,40 @@ def report(feed, table, moment):
     return [told(bounded=n, entities=n, feed=0, line="accepted", moment=moment, paired=n, peaked=n, row=0, snapshot=0, tested=n)] + JUDGE[0].judge()
 
 
+# ---- another timetable
+def ids_of(entity):
+    """The ids that an entity gives: of trips, of routes, of stops and of agencies."""
+    descriptors = [entity.get(holder_, {}).get("trip", {}) for holder_ in ("trip_update", "vehicle")]
+    selectors = entity.get("alert", {}).get("informed_entity", [])
+    descriptors += [it.get("trip", {}) for it in selectors]
+    updates = entity.get("trip_update", {}).get("stop_time_update", [])
+    stops = [it.get("stop_id") for it in updates + selectors + [entity.get("vehicle", {})]] + [it.get("stop_time_properties", {}).get("assigned_stop_id") for it in updates]
+    found = [it.get("trip_id") for it in descriptors], [it.get("route_id") for it in descriptors + selectors], stops, [it.get("agency_id") for it in selectors]
+    return [{it for it in ids if it is not None} for ids in found]
+
+
+def agree(old, new, entity):
+    """Whether two timetables say the same of each id of an entity. Where there is none, no other one agrees with it."""
+    if old is None or new is None:
+        return old is new
+    trips, routes, stops, agencies = ids_of(entity)
+    return (all(old.said_of_trip(it) == new.said_of_trip(it) for it in trips) and all(old.route_known(it) == new.route_known(it) for it in routes)
+            and all(old.stop_kind(it) == new.stop_kind(it) for it in stops) and all(old.agency_known(it) == new.agency_known(it) for it in agencies))
+
+
+def published(draw, files):
+    """The files of a publication, and its first fault, if it has one."""
+    files = dict(files)
+    for file, text, other in draw.sample(EDITS, draw.choice([0, 1, 1, 2, 3])):
+        if not other or other not in files[file]:  # no key comes twice
+            files[file] = files[file].replace(text, other)
+    file, text, other, why = draw.choice(FAULTS)
+    if draw.random() < 0.3 and (text is None or text in files[file]):
+        files[file] = None if text is None else files[file].replace(text, other)
+        return files, file + ": " + why
+    return files, None
+
+
 # ---- histories of one feed
 def key_of(found): return found.get("id"), found.get("occurrence")
 def place_of(found): return key_of(found) + (found["rule"], found["path"])
@@ -377,19 +441,42 @@ def touched(old, now, stood, stand):
     return dict(tested=len(tested), paired=len(tested | paired), bounded=len(tested | bounded), peaked=len(tested | peaked))
 
 
-def follow_report(feeds, table, moments):
-    lines, stood, old = [], {}, None
-    for n, moment in enumerate(moments):
-        JUDGE[0] = now = Judge(feeds[n], table, moment, feeds[:n])
+def changed(stood, stand):
+    """The lines of what opened and closed."""
+    opened = [told(**found) for place, found in stand.items() if place not in stood or stood[place]["facts"] != found["facts"]]
+    return opened + [told(line="closed", **{key: found[key] for key in ("feed", "id", "occurrence", "path", "rule") if key in found})
+                     for place, found in stood.items() if place not in stand]
+
+
+def follow_report(steps, table):
+    """Of a list, whose rows are a snapshot and its moment, or a timetable and why it is refused."""
+    lines, stood, old, feeds = [], {}, None, []
+
+    def judged(feed, moment, earlier, number):
+        JUDGE[0] = now = Judge(feed, table, moment, earlier)
         stand = {place_of(found): found for found in map(json.loads, now.judge())}
         for place, found in stand.items():
-            found.update(line="opened", since=stood[place]["since"] if place in stood else n)
-        lines.append(told(entities=len(now.entities), feed=0, line="accepted", moment=moment, row=n, snapshot=n, **touched(old, now, list(stood.values()), list(stand.values()))))
-        lines += [told(**found) for place, found in stand.items() if place not in stood or stood[place]["facts"] != found["facts"]]
-        for place, found in stood.items():
-            if place not in stand:
-                lines.append(told(line="closed", **{key: found[key] for key in ("feed", "id", "occurrence", "path", "rule") if key in found}))
-        stood, old = stand, now
+            found.update(line="opened", since=stood[place]["since"] if place in stood else number)
+        return now, stand
+
+    for row, (what, other) in enumerate(steps):
+        if isinstance(other, str):
+            lines.append(told(line="refused_timetable", row=row, text=other))
+        elif isinstance(what, Table):
+            entities = [e for _, _, e in old.entities] if old else []
+            lines.append(told(line="timetable", row=row, entities=len(entities), retested=sum(not agree(table, what, e) for e in entities)))
+            table = what
+            if old:
+                old, stand = judged(feeds[-1], old.moment, feeds[:-1], len(feeds) - 1)
+                lines += changed(stood, stand)
+                stood = stand
+        else:
+            now, stand = judged(what, other, feeds, len(feeds))
+            lines.append(told(entities=len(now.entities), feed=0, line="accepted", moment=other, row=row, snapshot=len(feeds),
+                              **touched(old, now, list(stood.values()), list(stand.values()))))
+            lines += changed(stood, stand)
+            stood, old = stand, now
+            feeds = feeds + [what]
     return lines
 
 
@@ -456,14 +543,36 @@ def history(draw):
     return feeds, moments
 
 
+def steps_of(draw, feeds, moments, write, write_table):
+    """The rows of a list, with publications between its snapshots, and its text."""
+    steps, text, files = [], "", TOWN
+    for n, (snapshot, moment_) in enumerate(zip(feeds, moments)):
+        while draw is not None and draw.random() < 0.4:
+            new, why = published(draw, files)
+            folder = "town%d" % len(steps)
+            write_table(folder, new)
+            steps.append((None, folder + "/" + why) if why else (Table(new), None))
+            files = files if why else new
+            text += "timetable,,%s\n" % folder
+        write(snapshot, "f%d" % n)
+        steps.append((snapshot, moment_))
+        text += "0,%d,f%d\n" % (moment_, n)
+    return steps, text
+
+
 def main():
     program = os.path.abspath(sys.argv[1] if len(sys.argv) > 1 else os.path.join(os.path.dirname(os.path.abspath(__file__)), "../crates/rt_command/out/rt_command"))
-    same, found = 0, collections.Counter()
+    same, found, kinds = 0, collections.Counter(), collections.Counter()
     wanted = int(sys.argv[2]) if len(sys.argv) > 2 else 300
     with tempfile.TemporaryDirectory() as folder:
-        os.mkdir(folder + "/town")
-        for name, text in TOWN.items():
-            open(folder + "/town/" + name, "w").write(text)
+        def write_table(name, files):
+            shutil.rmtree(folder + "/" + name, ignore_errors=True)
+            os.mkdir(folder + "/" + name)
+            for file, text in files.items():
+                if text is not None:
+                    open(folder + "/" + name + "/" + file, "w").write(text)
+
+        write_table("town", TOWN)
         run = lambda *words: subprocess.run([program] + list(words), cwd=folder, stdout=subprocess.PIPE, stderr=subprocess.PIPE)
 
         def write(snapshot, name):
@@ -474,12 +583,12 @@ def main():
 
         for seed in range(wanted + wanted // 3):
             draw = random.Random(seed)
-            table = Table() if seed % 3 else None
+            table = Table(TOWN) if seed % 3 else None
             if seed >= wanted:
                 feeds, moments = history(draw)
-                for n, snapshot in enumerate(feeds): write(snapshot, "f%d" % n)
-                open(folder + "/list", "w").write("".join("0,%d,f%d\n" % (moment_, n) for n, moment_ in enumerate(moments)))
-                want = follow_report(feeds, table, moments)
+                steps, text = steps_of(draw if seed % 2 else None, feeds, moments, write, write_table)
+                open(folder + "/list", "w").write(text)
+                want = follow_report(steps, table)
                 got = run("follow", *(["--timetable", "town"] if table else []), "--list", "list")
             else:
                 snapshot = feed(draw)
@@ -488,14 +597,16 @@ def main():
                 want = report(snapshot, table, moment_)
                 got = run("check", *(["--timetable", "town"] if table else []), "--now", str(moment_), "f")
             lines = got.stdout.decode().splitlines()
-            status = int(any(json.loads(line).get("level") in ("E", "X") for line in want))
+            status = int(any(line.get("level") in ("E", "X") or line["line"] == "refused_timetable" for line in map(json.loads, want)))
             if lines != want or got.returncode != status:
                 at = next((k for k, (a, b) in enumerate(zip(lines, want)) if a != b), min(len(lines), len(want)))
                 print("seed %d, line %d:\n got %s\nwant %s\nstatus %d for %d" % (seed, at, lines[at:at + 1], want[at:at + 1], got.returncode, status))
                 return 1
             same += 1
             found.update(line["rule"] for line in map(json.loads, want) if line["line"] in ("finding", "opened"))
-    print("%d reports are the same" % same)
+            kinds.update(line["line"] + (" of some" if line.get("retested") else "") for line in map(json.loads, want))
+    print("%d reports are the same; %d timetables came, %d of them refused, and %d concerned an entity" % (
+        same, kinds["timetable"] + kinds["timetable of some"] + kinds["refused_timetable"], kinds["refused_timetable"], kinds["timetable of some"]))
     print(", ".join("%s %d" % (r["name"], found[r["name"]]) for r in RULES))
     return 0
 

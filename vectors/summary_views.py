@@ -27,7 +27,7 @@ const standing = {};
 for (const found of report.standing.values()) standing[found.rule] = (standing[found.rule] || 0) + 1;
 const rules = gather(report.findings, found => [found.rule], () => []).map(group => [group.key, { findings: group.openings,
   places: group.errors + group.warnings, entities: group.entities.size, standing: standing[group.key] || 0 }]);
-console.log(JSON.stringify({ lines: report.lines, accepted: report.accepted.length, refused: report.refused.length, foreign: report.unread.map(line => line.number),
+console.log(JSON.stringify({ lines: report.lines, accepted: report.accepted.length, refused: report.refused.length, exchanged: report.exchanged, refused_timetables: report.refusedTimetables, foreign: report.unread.map(line => line.number),
   follows: report.follows, closings: report.closings, rules: Object.fromEntries(rules) }));
 """
 
@@ -90,6 +90,7 @@ def differences(report):
     counts, places, snapshots = by_recipe(report)
     rules = {rule["rule"]: rule for rule in said["rules"]}
     pairs = [(key, said[key], shown[key]) for key in ("lines", "accepted", "refused")]
+    pairs += [(key, said.get(key, 0), shown[key]) for key in ("exchanged", "refused_timetables")]
     pairs += [(key, said[key], int(snapshots.get(key, 0))) for key in ("accepted", "refused")]
     pairs += [("foreign lines", said["foreign_lines"], shown["foreign"]), ("closings", sum(rule["closings"] for rule in said["rules"]), shown["closings"])]
     pairs += [("rules", sorted(rules), sorted(names)) for names in (shown["rules"], counts, places)]
@@ -114,6 +115,7 @@ def text_of(lines):
 def all_reports():
     yield "all levels", text_of(reports.all_levels())
     yield "followed", text_of(reports.followed()[0])
+    yield "with timetables", text_of(reports.exchanged())
     yield "a crowd", text_of(reports.crowd(2000))
     yield "refused alone", text_of(reports.only_refused())
     if os.access(PROGRAM, os.X_OK):
@@ -123,6 +125,7 @@ def all_reports():
         table = ["--timetable", "examples/timetable"]
         yield "check", program("check", *table, "--now", "1700034600", "examples/city.pb", "examples/late_city.pb", "examples/cut_off.pb", "examples/no_timestamp.pb")
         yield "follow", program("follow", *table, "--list", "examples/evening.csv")
+        yield "follow with timetables", program("follow", *table, "--list", "examples/publication.csv")
 
 
 def main():

@@ -71,7 +71,9 @@ class Said:
                 value = json.loads(text)
             except ValueError:
                 value = None
-            known = isinstance(value, dict) and value.get("line") in ("accepted", "refused", "finding", "opened", "closed")
+            known = isinstance(value, dict) and value.get("line") in ("accepted", "refused", "timetable", "refused_timetable", "finding", "opened", "closed")
+            if known and (value["line"] == "timetable" and "retested" not in value or value["line"] == "refused_timetable" and value["row"] < 0):
+                known = False
             place = known and (value.get("rule"), value.get("path"), value.get("feed"), value.get("id"), value.get("occurrence"))
             if not known or value["line"] in ("finding", "opened") and "facts" not in value or value["line"] == "closed" and place not in self.standing:
                 self.unread.append(number)
@@ -81,11 +83,12 @@ class Said:
                 self.standing[place] = value
             if value["line"] == "closed":
                 del self.standing[place]
-            if value["line"] == "accepted":
+            if value["line"] in ("accepted", "timetable"):
                 self.after.append(None)
             if self.after:
                 self.after[-1] = len(self.standing)
         self.accepted, self.refused, self.findings = self.kinds["accepted"], self.kinds["refused"], self.kinds["finding"]
+        self.exchanged, self.kept_out = self.kinds["timetable"], self.kinds["refused_timetable"]
         self.follows = any(f["line"] == "opened" for f in self.findings)
 
     def rules(self, findings=None):
@@ -123,6 +126,7 @@ class Said:
         errors = {place_of(f) for f in self.findings if f["level"] != "W"}
         warnings = len(self.places()) - len(errors)
         parts = [plural(len(self.refused), "snapshot") + " refused"] if self.refused else []
+        parts += [plural(len(self.kept_out), "timetable") + " refused"] if self.kept_out else []
         parts += [plural(len(errors), "error")] if errors else []
         parts += [plural(warnings, "warning")] if warnings else []
         stand = len(self.standing)
@@ -176,6 +180,8 @@ def compare(browser, name, lines, said):
     numbers = browser.ask("Object.fromEntries([...document.querySelectorAll('#numbers > div')].map(one => [one.children[0].textContent, one.children[1].textContent]))")
     expect(name + ": accepted", numbers["Snapshots accepted"], grouped(len(said.accepted)))
     expect(name + ": refused", numbers["Snapshots refused"], grouped(len(said.refused)))
+    for kind, lines_of in (("exchanged", said.exchanged), ("refused", said.kept_out)):
+        expect(name + ": timetables " + kind, numbers.get("Timetables " + kind), grouped(len(lines_of)) if said.exchanged or said.kept_out else None)
     expect(name + ": findings", numbers["Places that broke" if said.follows else "Findings"], grouped(len(said.places())))
     expect(name + ": openings", numbers.get("Opened, or again with other facts"), grouped(len(said.findings)) if said.follows else None)
     expect(name + ": lines", numbers["Lines"], grouped(len(lines)))
@@ -184,11 +190,17 @@ def compare(browser, name, lines, said):
         expect(name + ": verdict", text(browser, "#verdict"), said.verdict())
     expect(name + ": rules", rule_table(browser), {visible(rule): numbers for rule, numbers in said.rules().items()})
     shown = browser.ask("[...document.querySelectorAll('#refused li')].map(one => one.textContent)")
-    for line, words in zip(said.refused, shown):
+    kinds = [kind for kind, lines_of in (("snapshots", said.refused), ("timetables", said.kept_out)) if lines_of]
+    expect(name + ": head of the refusals", text(browser, "#refusals-head"), "Refused " + " and ".join(kinds))
+    for line in said.kept_out:
+        expect(name + ": refused timetable", [words for words in shown if words.startswith("Row %d." % line["row"]) and visible(line["text"]) in words][1:], [])
+        expect(name + ": refused timetable is there", any(words.startswith("Row %d." % line["row"]) and visible(line["text"]) in words for words in shown), True)
+    of_snapshots = [words for words in shown if "The timetable is refused" not in words]
+    for line, words in zip(said.refused, of_snapshots):
         expect(name + ": refusal", "Row %d." % line["row"] in words and (line["reason"] == "NoFile" or grouped(line["at"]) in words), True)
         if "MissingField" in line["reason"]:
             expect(name + ": missing field", line["reason"][13:-1] in words, True)
-    expect(name + ": refusals", len(shown), len(said.refused))
+    expect(name + ": refusals", (len(shown), len(of_snapshots)), (len(said.refused) + len(said.kept_out), len(said.refused)))
     expect(name + ": unread", browser.ask("document.getElementById('tab-unread') ? document.getElementById('tab-unread').textContent : ''"),
            "Not understood (%d)" % len(said.unread) if said.unread else "")
 
@@ -203,8 +215,9 @@ def compare_lists(browser, name, lines, said):
         missing = [part for part in wanted if visible(part) not in words and part not in words]
         expect(name + ": a finding's row", missing, [])
     view(browser, "snapshots")
-    shown = [words[:8].strip() for words in (rows(browser, "snapshot-rows") if said.accepted or said.refused else [])]
-    expect(name + ": snapshots", collections.Counter(shown), collections.Counter({"accepted": len(said.accepted), "refusedr": len(said.refused)}) - collections.Counter())
+    shown = [words[:8].strip() for words in (rows(browser, "snapshot-rows") if said.accepted or said.refused or said.exchanged or said.kept_out else [])]
+    expect(name + ": snapshots", collections.Counter(shown),
+           collections.Counter({"accepted": len(said.accepted), "refusedr": len(said.refused) + len(said.kept_out), "timetabl": len(said.exchanged)}) - collections.Counter())
     view(browser, "routes")
     shown = rows(browser, "route-rows") if said.routes() else []
     expect(name + ": routes", len(shown), len(said.routes()))
@@ -414,13 +427,40 @@ def check_time(browser, lines, said):
         slider.value = position;
         slider.dispatchEvent(new Event('input'));
         return Number(slider.getAttribute('aria-valuetext').match(/: ([0-9,]+) finding/)[1].replace(/,/g, ''));
-    })""" % len(said.accepted))
+    })""" % len(said.after))
     expect("what stood when", shown, said.after)
     expect("rows of the plot", browser.ask("document.querySelectorAll('#time svg path').length"), 1 + len(said.rules()))
     load(browser, lines, "#view=findings&at=20")
     expect("filter by snapshot", text(browser, "#shown").split(" ")[0], str(said.after[20]))
     load(browser, lines, "#standing=end")
     expect("filter by standing", text(browser, "#shown").split(" ")[0], str(len(said.standing)))
+
+
+def check_exchanged(browser, lines, said):
+    """What a timetable changed stands at its line, and not at that of the snapshot before it."""
+    load(browser, lines, "#view=time")
+    told = browser.ask("""[...Array(%d).keys()].map(position => {
+        const slider = document.querySelector('#time input');
+        slider.value = position;
+        slider.dispatchEvent(new Event('input'));
+        return slider.getAttribute('aria-valuetext');
+    })""" % len(said.after))
+    expect("what stood behind each line", [int(re.search("([0-9]+) finding", words)[1]) for words in told], [0, 2, 3, 4, 3, 3, 3])
+    expect("which lines these are", [re.match("After (the timetable of row [0-9]+|snapshot [0-9]+)", words)[1] for words in told],
+           ["the timetable of row 0", "snapshot 0", "the timetable of row 2", "snapshot 1", "the timetable of row 6", "snapshot 2", "the timetable of row 8"])
+    expect("marks in the plot", browser.ask("[...document.querySelectorAll('#time .exchange')].map(one => one.textContent).length > 1"), True)
+    load(browser, lines, "#view=snapshots")
+    shown = rows(browser, "snapshot-rows")
+    counts = [re.search("; ([0-9]+) opened, ([0-9]+) closed", words) for words in shown]
+    expect("what each row changed", [count and (int(count[1]), int(count[2])) for count in counts], [(0, 0), (2, 0), (2, 1), (1, 0), None, None, (1, 1), (0, 0), (0, 0)])
+    expect("how many it concerns", "for 3 of 5 entities" in shown[2] and "row 2" in shown[2] and "behind snapshot 0" in shown[2], True)
+    load(browser, lines, "#view=findings&order=report")
+    spans = [re.search("(stands since|opened at).*", words)[0] for words in rows(browser, "finding-rows")]
+    wanted = ["stands since snapshot 0", "opened at snapshot 0, closed at the timetable of row 2", "opened at the timetable of row 2, closed at the timetable of row 6",
+              "opened at the timetable of row 2, other facts at the timetable of row 6", "stands since snapshot 1", "stands since the timetable of row 2"]
+    expect("since when each stands", [span.startswith(words) for span, words in zip(spans, wanted)], [True] * len(wanted))
+    load(browser, lines, "#view=findings&at=2")
+    expect("filter by a timetable", "Stood after the timetable of row 2" in text(browser, "#chips"), True)
 
 
 def check_many(browser, lines, said):
@@ -478,7 +518,7 @@ def check_drop(browser, lines, said):
 
 def pictures(browser, folder, kinds):
     os.makedirs(folder, exist_ok=True)
-    for name, tab in (("levels", "rules"), ("levels", "findings"), ("levels", "routes"), ("follow", "time"), ("follow", "findings"), ("crowd", "time"), ("crowd", "rules"), ("crowd", "routes"), ("many", "entities"), ("hostile", "findings"), ("broken", "unread")):
+    for name, tab in (("levels", "rules"), ("levels", "findings"), ("levels", "routes"), ("follow", "time"), ("follow", "findings"), ("exchanged", "time"), ("exchanged", "snapshots"), ("crowd", "time"), ("crowd", "rules"), ("crowd", "routes"), ("many", "entities"), ("hostile", "findings"), ("broken", "unread")):
         load(browser, kinds[name], "#view=" + tab)
         for width, height in ((1440, 900), (390, 1900)):
             for theme in ("light", "dark"):
@@ -500,7 +540,7 @@ def check_other_files(browser):
 
 def main():
     follow, standing = reports.followed()
-    kinds = {"accepted": reports.only_accepted(), "before": reports.of_before(), "refused": reports.only_refused(), "levels": reports.all_levels(), "follow": follow,
+    kinds = {"exchanged": reports.exchanged(), "accepted": reports.only_accepted(), "before": reports.of_before(), "refused": reports.only_refused(), "levels": reports.all_levels(), "follow": follow,
              "hostile": reports.hostile(), "broken": reports.broken(), "far": reports.far_ahead(), "crowd": reports.crowd(), "many": reports.many(), "empty": []}
     said = {name: Said(lines) for name, lines in kinds.items()}
     expect("what was made stands", len(said["follow"].standing), standing)
@@ -528,6 +568,7 @@ def main():
         check_width(browser, kinds["follow"], "follow")
         check_width(browser, kinds["hostile"], "hostile")
         check_time(browser, kinds["follow"], said["follow"])
+        check_exchanged(browser, kinds["exchanged"], said["exchanged"])
         load(browser, kinds["far"], "#view=time")
         expect("great moments have a plot", browser.ask("document.querySelectorAll('#time svg path').length"), 2)
         check_drop(browser, kinds["levels"], said["levels"])

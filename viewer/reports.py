@@ -23,6 +23,14 @@ def refused(row, at, reason):
     return line(line="refused", row=row, at=at, reason=reason)
 
 
+def timetable(row, entities=0, retested=0):
+    return line(line="timetable", row=row, entities=entities, retested=retested)
+
+
+def refused_timetable(row, text):
+    return line(line="refused_timetable", row=row, text=text)
+
+
 def fact(ask, *keys, value):
     return {"ask": ask, "keys": list(keys), "value": value}
 
@@ -110,6 +118,16 @@ def followed(snapshots=40, feeds=2, seed=7):
                     openings.append(make(*arguments, feed=feed, since=snapshot, kind="opened"))
         lines += openings + closings
     return lines, len(standing)
+
+
+def exchanged():
+    """A history with timetables: one before all snapshots, one that breaks trips and mends one, a refused one, one that mends all but one, and one that changes nothing."""
+    return [timetable(0), accepted(1, 0, 0, START, 5), newer("trip-0", START + 9, kind="opened"), other_route("trip-1", "1", "5", "4", kind="opened"),
+            timetable(2, 5, 3), other_route("trip-2", "2", "5", "4", kind="opened"), other_route("trip-3", "3", "6", "4", kind="opened"), closed("E035", "trip_update.trip.route_id", "trip-1"),
+            accepted(3, 0, 1, START + 30, 5, 1, 1, 0), newer("trip-4", START + 39, since=1, kind="opened"),
+            refused_timetable(4, "gtfs/new/stop_times.txt: row 3: bad value in arrival_time"), refused(5, 16, "Overrun"),
+            timetable(6, 5, 2), other_route("trip-3", "3", "6", "7", kind="opened"), closed("E035", "trip_update.trip.route_id", "trip-2"),
+            accepted(7, 0, 2, START + 60, 5, 0, 0, 0), timetable(8, 5, 0)]
 
 
 def many(count=100000):
@@ -207,9 +225,10 @@ def hostile():
     lines = [accepted(0, entities=len(HOSTILE))] + [unknown_route(id, id) for id in HOSTILE]
     lines.append(finding('<b>rule</b>', '<i>path</i>', [fact('<u>ask</u>', '<s>key</s>', value='<img src="http://example.org/">')], '<script>'))
     lines.append(line(line="refused", row=1, at=3, reason='<script>document.title="hit"</script>'))
+    lines.append(refused_timetable(2, '<script>document.title="hit"</script>'))
     return lines
 
 
 def broken():
     return ["no JSON at all", "{", "[1,2]", "null", line(line="trial", snapshots=40), line(line="finding", rule="E012"), accepted(0, entities=1), newer("a", START + 1),
-            closed("E012", "vehicle.timestamp", "b"), '{"line":"<script>"}', "", '{"__proto__":{"line":"accepted"}}', newer("cut", START)[:40]]
+            closed("E012", "vehicle.timestamp", "b"), line(line="timetable", row=1), line(line="refused_timetable", row=-1, text="a"), '{"line":"<script>"}', "", '{"__proto__":{"line":"accepted"}}', newer("cut", START)[:40]]

@@ -9,9 +9,9 @@ use Rattle.report_counts.specs.declared.counts.Counts.{Counts}
 use Rattle.report_counts.specs.declared.gate.FailOn.{FailOn}
 use Rattle.report_counts.specs.declared.gate.FailOn.TheVariants as on
 
--- no line, a refused snapshot, or a line that is no report's
+-- no line, a refused snapshot or timetable, or a line that is no report's
 abbrev pub is_empty_or_broken : Counts → Bool
-is_empty_or_broken counts = (counts.lines == 0) || nat_lt 0 counts.refused || nat_lt 0 counts.foreign
+is_empty_or_broken counts = (counts.lines == 0) || nat_lt 0 counts.refused || nat_lt 0 counts.refused_timetables || nat_lt 0 counts.foreign
 
 -- all but warnings
 abbrev pub is_error : RuleId → Bool

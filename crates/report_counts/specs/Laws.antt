@@ -12,9 +12,9 @@ lines_in tally = tally.findings + tally.closings
 abbrev pub lines_of_rules : List Tally → ℕ
 lines_of_rules tallies = sum_by lines_in tallies
 
--- what isn't ignored counts once, and is of a snapshot, a rule, a trial or none
+-- what isn't ignored counts once, and is of a snapshot, a timetable, a rule, a trial or none
 abbrev pub counted : Counts → ℕ
-counted counts = counts.accepted + counts.refused + counts.trials + counts.foreign + lines_of_rules counts.rules
+counted counts = counts.accepted + counts.refused + counts.exchanged + counts.refused_timetables + counts.trials + counts.foreign + lines_of_rules counts.rules
 
 abbrev pub EachLineCounts : Type 0
 EachLineCounts = (ignored : Ignored) (lines : List (List ℕ)) → (counts_of ignored lines).ignored + counted (counts_of ignored lines) ≡ length lines

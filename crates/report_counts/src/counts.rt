@@ -3,15 +3,15 @@ ghost use Rattle.std.specs.Prelude.{◌≡◌, ◌++◌, ◌∷◌, [], ◌==◌
 ghost use Rattle.std.specs.List.{list_any};
 ghost use Rattle.rule_table.specs.Rules.{rule_number};
 ghost use Rattle.report_lines.specs.Lines.{line_said};
-ghost use Rattle.report_counts.specs.Counts.{counts_of, is_ignored};
-ghost use Rattle.report_counts.specs.Stepping.{HasTaken, HasTold, with_foreign, with_refused};
+ghost use Rattle.report_counts.specs.Counts.{behind_snapshot, counts_of, is_ignored};
+ghost use Rattle.report_counts.specs.Stepping.{HasTaken, HasTold, with_exchange, with_foreign, with_refused_timetable, with_refused};
 
 use crate::shown::push_shown;
 use crate::tallies::Tallies;
 use feed_values::Items;
-use report_lines::{RefusedLine, ReportLine, read_line};
+use report_lines::{RefusedLine, RefusedTimetable, ReportLine, read_line};
 use rule_table::RuleId;
-use rule_tally::{Telling, one_more};
+use rule_tally::{Behind, Telling, one_more};
 use std::alloc::{AllocError, Global};
 
 /// What the lines of a report come to.
@@ -20,11 +20,16 @@ pub struct Counts {
     pub lines: u64,
     /// Snapshots.
     pub accepted: u64,
-    /// When the last of them was judged, in POSIX seconds; none where its line doesn't tell it, or none came.
-    pub moment: Option<u64>,
+    /// What the next line stands behind.
+    pub behind: Behind,
     pub refused: u64,
     /// The first of the refused.
     pub refusals: Items<RefusedLine>,
+    /// Timetables that took the place of another.
+    pub exchanged: u64,
+    pub refused_timetables: u64,
+    /// The first of these.
+    pub timetable_refusals: Items<RefusedTimetable>,
     /// Lines that sum up a trial.
     pub trials: u64,
     /// Lines that are no report's.
@@ -45,9 +50,12 @@ impl Counts {
         Ok(Counts {
             lines: 0,
             accepted: 0,
-            moment: None,
+            behind: behind_snapshot(None),
             refused: 0,
             refusals: Items::new(alloc),
+            exchanged: 0,
+            refused_timetables: 0,
+            timetable_refusals: Items::new(alloc),
             trials: 0,
             foreign: 0,
             strangers: Items::new(alloc),
@@ -78,10 +86,12 @@ impl Counts {
         match said {
             ReportLine::Accepted(moment) => {
                 self.accepted = one_more(self.accepted)?;
-                self.moment = moment;
+                self.behind = behind_snapshot(moment);
                 Ok(())
             }
             ReportLine::Refused(refusal) => self.refuse(refusal),
+            ReportLine::Exchanged(row) => self.exchange(row),
+            ReportLine::RefusedTimetable(refusal) => self.refuse_timetable(refusal),
             ReportLine::Told(rule, telling) => self.tell(alloc, ignored, rule, &telling, line),
             ReportLine::Trial => {
                 self.trials = one_more(self.trials)?;
@@ -96,6 +106,21 @@ impl Counts {
     {
         self.refused = one_more(self.refused)?;
         push_shown(&mut self.refusals, refusal)
+    }
+
+    fn exchange(&mut self, row: u64) -> Result<(), AllocError>
+        ensures { OnOk result (self.new ≡ with_exchange self.old row) }
+    {
+        self.exchanged = one_more(self.exchanged)?;
+        self.behind.timetable = Some(row);
+        Ok(())
+    }
+
+    fn refuse_timetable(&mut self, refusal: RefusedTimetable) -> Result<(), AllocError>
+        ensures { OnOk result (self.new ≡ with_refused_timetable self.old refusal) }
+    {
+        self.refused_timetables = one_more(self.refused_timetables)?;
+        push_shown(&mut self.timetable_refusals, refusal)
     }
 
     fn pass_by(&mut self) -> Result<(), AllocError>
@@ -119,7 +144,17 @@ impl Counts {
             self.ignored = one_more(self.ignored)?;
             return Ok(());
         }
-        self.rules.take(alloc, rule, telling, self.moment, line)
+        self.rules.take(alloc, rule, telling, self.behind, line)
+    }
+}
+
+// What stands behind an accepted snapshot that is judged at this moment.
+fn behind_snapshot(moment: Option<u64>) -> Behind
+    ensures { result ≡ behind_snapshot moment }
+{
+    Behind {
+        moment,
+        timetable: None,
     }
 }
 

@@ -10,7 +10,7 @@ use rule_table::{RuleId, all_rules};
 pub enum FailOn {
     /// A finding or an opening whose rule isn't a warning, or what follows.
     Error,
-    /// Any finding or opening, a refused snapshot, a line that is no report's, or no line at all.
+    /// Any finding or opening, a refused snapshot or timetable, a line that is no report's, or no line at all.
     Warning,
     /// Nothing.
     Never,
@@ -29,11 +29,11 @@ impl FailOn {
     }
 }
 
-// Whether it has no lines, a refused snapshot or a line that is no report's.
+// Whether it has no lines, a refused snapshot or timetable, or a line that is no report's.
 fn is_empty_or_broken(counts: &Counts) -> bool
     ensures { result ≡ is_empty_or_broken counts.now }
 {
-    counts.lines == 0 || counts.refused > 0 || counts.foreign > 0
+    counts.lines == 0 || counts.refused > 0 || counts.refused_timetables > 0 || counts.foreign > 0
 }
 
 fn is_error(rule: RuleId) -> bool

@@ -7,7 +7,7 @@ ghost use Rattle.rule_tally.specs.Tallies.{Told, told};
 ghost use Rattle.report_counts.specs.Tallies.{findings_at, none_yet, one_more_of, tallies_of};
 
 use rule_table::{RuleId, all_rules};
-use rule_tally::{Tally, Telling};
+use rule_tally::{Behind, Tally, Telling};
 use std::alloc::{AllocError, Global};
 use std::marker::Model;
 
@@ -41,21 +41,21 @@ impl Tallies {
         Ok(Tallies { tallies })
     }
 
-    /// Takes one line more, which tells this of the rule, at the moment of the snapshot that it tells of.
+    /// Takes one line more, which tells this of the rule, and stands behind this.
     pub fn take(
         &mut self,
         alloc: Global,
         rule: RuleId,
         telling: &Telling,
-        moment: Option<u64>,
+        behind: Behind,
         line: &[u8],
     ) -> Result<(), AllocError>
-        ensures { OnOk result ((before : RuleId → List Told) → self.old ≡ tallies_of before → self.new ≡ tallies_of (one_more_of before rule (told telling.now moment line.now))) }
+        ensures { OnOk result ((before : RuleId → List Told) → self.old ≡ tallies_of before → self.new ≡ tallies_of (one_more_of before rule (told telling.now behind line.now))) }
     {
         let index = rule.number() as usize;
         if index < self.tallies.len() {
             let tally = &mut self.tallies[index];
-            return tally.take(alloc, telling, moment, line);
+            return tally.take(alloc, telling, behind, line);
         }
         Ok(())
     }

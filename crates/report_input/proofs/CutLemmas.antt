@@ -1,5 +1,6 @@
 -- The lines of a text with one byte more.
-use Rattle.std.proofs.Common.{◌≡◌, ◌==◌, ℕ, Bool, true, false, List, [], ◌∷◌, ◌++◌, cond, refl, ap}
+use Rattle.std.proofs.Common.{◌≡◌, ◌+◌, ◌<◌, ◌==◌, ℕ, Bool, true, false, List, [], ◌∷◌, ◌++◌, cond, length, slice_index_or, take, refl, sym, ap, ◌∙◌, append_assoc}
+use Rattle.std.proofs.lemmas.List.{take_more}
 use Rattle.report_input.specs.Lines.{rest_behind, whole_lines}
 
 -- ---- in both cases
@@ -36,3 +37,7 @@ whole-other front (byte ∷ came) b h = same_both (byte == 10) _ _ _ _ (ap (λ l
 pub rest-other : (front came : List ℕ) (b : ℕ) → (b == 10) ≡ false → rest_behind front (came ++ b ∷ []) ≡ rest_behind front came ++ b ∷ []
 rest-other front [] b h = rw h refl
 rest-other front (byte ∷ came) b h = more_both (byte == 10) _ _ _ _ (b ∷ []) (rest-other [] came b h) (rest-other (front ++ byte ∷ []) came b h)
+
+-- ---- a piece, byte by byte
+pub one_longer : (before piece : List ℕ) (i d : ℕ) → i < length piece → (before ++ take i piece) ++ slice_index_or piece i d ∷ [] ≡ before ++ take (i + 1) piece
+one_longer before piece i d h = append_assoc before (take i piece) (slice_index_or piece i d ∷ []) ∙ ap (λ bytes. before ++ bytes) (sym (take_more piece i d h))

@@ -52,6 +52,8 @@ told_at name.Opened feed path entity = Some (telling.Opened entity (place_name f
 told_at name.Closed feed path entity = Some (telling.Closed (place_name feed entity path))
 told_at name.Accepted feed path entity = None
 told_at name.Refused feed path entity = None
+told_at name.Timetable feed path entity = None
+told_at name.RefusedTimetable feed path entity = None
 told_at name.Trial feed path entity = None
 
 abbrev pub telling_of : LineName → Data → Option Telling
@@ -74,10 +76,24 @@ refused_line d = option_and_then (λ row. option_and_then (λ at. option_map (re
 abbrev pub accepted_line : Data → ReportLine
 accepted_line d = line.Accepted (count_at (codes "moment") d)
 
+-- ---- lines of timetables
+-- one that is exchanged has its row
+abbrev pub exchanged_line : Data → Option ReportLine
+exchanged_line d = option_map line.Exchanged (count_at (codes "row") d)
+
+-- and one that is refused also tells why
+abbrev pub refused_table : ℕ → List ℕ → ReportLine
+refused_table row text = line.RefusedTimetable (record { row = row; text = text })
+
+abbrev pub refused_timetable_line : Data → Option ReportLine
+refused_timetable_line d = option_and_then (λ row. option_map (refused_table row) (text_at (codes "text") d)) (count_at (codes "row") d)
+
 -- ---- a line
 abbrev pub named_line : Data → LineName → Option ReportLine
 named_line d name.Accepted = Some (accepted_line d)
 named_line d name.Refused = refused_line d
+named_line d name.Timetable = exchanged_line d
+named_line d name.RefusedTimetable = refused_timetable_line d
 named_line d name.Finding = rule_line name.Finding d
 named_line d name.Opened = rule_line name.Opened d
 named_line d name.Closed = rule_line name.Closed d

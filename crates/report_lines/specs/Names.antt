@@ -9,13 +9,15 @@ use Rattle.report_lines.specs.declared.line_name.LineName.TheVariants as name
 abbrev pub name_text : LineName → List ℕ
 name_text name.Accepted = codes "accepted"
 name_text name.Refused = codes "refused"
+name_text name.Timetable = codes "timetable"
+name_text name.RefusedTimetable = codes "refused_timetable"
 name_text name.Finding = codes "finding"
 name_text name.Opened = codes "opened"
 name_text name.Closed = codes "closed"
 name_text name.Trial = codes "trial"
 
 abbrev pub all_names : List LineName
-all_names = name.Accepted ∷ name.Refused ∷ name.Finding ∷ name.Opened ∷ name.Closed ∷ name.Trial ∷ []
+all_names = name.Accepted ∷ name.Refused ∷ name.Timetable ∷ name.RefusedTimetable ∷ name.Finding ∷ name.Opened ∷ name.Closed ∷ name.Trial ∷ []
 
 abbrev pub line_named : List ℕ → Option LineName
 line_named text = find (λ n. bytes_eq (name_text n) text) all_names

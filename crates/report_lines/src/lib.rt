@@ -14,6 +14,6 @@ mod line_name;
 mod members;
 mod telling;
 
-pub use line::{LINE_LIMIT, RefusedLine, ReportLine, read_line, tree_of};
+pub use line::{LINE_LIMIT, RefusedLine, RefusedTimetable, ReportLine, read_line, tree_of};
 pub use members::{count_at, text_at};
 pub use telling::rule_named;

@@ -1,7 +1,7 @@
 //! What a line says.
 ghost use Rattle.std.specs.Prelude.{◌≡◌, ◌≤◌, IfOk, length, option_map};
 ghost use Rattle.serde_json.specs.View.{view};
-ghost use Rattle.report_lines.specs.Lines.{line_in, line_limit, line_said, named_line, or_foreign, refused_line, rule_line, tree_of};
+ghost use Rattle.report_lines.specs.Lines.{exchanged_line, line_in, line_limit, line_said, named_line, or_foreign, refused_line, refused_timetable_line, rule_line, tree_of};
 
 use crate::line_name::LineName;
 use crate::members::{count_at, text_at};
@@ -23,12 +23,22 @@ pub struct RefusedLine {
     pub reason: Text,
 }
 
+/// A timetable of a list that is refused: which row it has, and which file of it has which fault.
+#[derive(Drop)]
+pub struct RefusedTimetable {
+    pub row: u64,
+    pub text: Text,
+}
+
 /// What a line of a report says, as far as a summary asks.
 #[derive(Drop)]
 pub enum ReportLine {
     /// A snapshot is accepted, and judged at this moment, in POSIX seconds; none where the line tells no whole number of 64 bits.
     Accepted(Option<u64>),
     Refused(RefusedLine),
+    /// The timetable of this row of the list is in force from here on.
+    Exchanged(u64),
+    RefusedTimetable(RefusedTimetable),
     /// It tells this of a rule.
     Told(RuleId, Telling),
     /// It sums up a trial.
@@ -99,6 +109,8 @@ fn named_line(
     match name {
         LineName::Accepted => Ok(Some(ReportLine::Accepted(count_at(value, "moment")))),
         LineName::Refused => refused_line(alloc, value),
+        LineName::Timetable => Ok(exchanged_line(value)),
+        LineName::RefusedTimetable => refused_timetable_line(alloc, value),
         LineName::Trial => Ok(Some(ReportLine::Trial)),
         _ => rule_line(alloc, name, value),
     }
@@ -120,6 +132,28 @@ fn refused_line(alloc: Global, value: &Value) -> Result<Option<ReportLine>, Allo
         row,
         at,
         reason: Text::of(alloc, reason)?,
+    })))
+}
+
+fn exchanged_line(value: &Value) -> Option<ReportLine>
+    ensures { result ≡ exchanged_line (view value.now) }
+{
+    let row = count_at(value, "row")?;
+    Some(ReportLine::Exchanged(row))
+}
+
+fn refused_timetable_line(alloc: Global, value: &Value) -> Result<Option<ReportLine>, AllocError>
+    ensures { IfOk result (λ line. line ≡ refused_timetable_line (view value.now)) }
+{
+    let Some(row) = count_at(value, "row") else {
+        return Ok(None);
+    };
+    let Some(text) = text_at(value, "text") else {
+        return Ok(None);
+    };
+    Ok(Some(ReportLine::RefusedTimetable(RefusedTimetable {
+        row,
+        text: Text::of(alloc, text)?,
     })))
 }
 

@@ -7,15 +7,19 @@ ghost use Rattle.report_lines.specs.Names.{all_names, line_named, name_text};
 pub enum LineName {
     Accepted,
     Refused,
+    Timetable,
+    RefusedTimetable,
     Finding,
     Opened,
     Closed,
     Trial,
 }
 
-const NAMES: [LineName; 6] = [
+const NAMES: [LineName; 8] = [
     LineName::Accepted,
     LineName::Refused,
+    LineName::Timetable,
+    LineName::RefusedTimetable,
     LineName::Finding,
     LineName::Opened,
     LineName::Closed,
@@ -36,6 +40,8 @@ impl LineName {
         match self {
             LineName::Accepted => "accepted",
             LineName::Refused => "refused",
+            LineName::Timetable => "timetable",
+            LineName::RefusedTimetable => "refused_timetable",
             LineName::Finding => "finding",
             LineName::Opened => "opened",
             LineName::Closed => "closed",

@@ -2,7 +2,7 @@
 
 use crate::trouble::Trouble;
 use clap::ArgMatches;
-use feed_list::{ListFault, read_list};
+use feed_list::{ListFault, ListRow, read_list};
 use feed_values::Text;
 use rt_outside::RealFiles;
 use std::alloc::AllocError;
@@ -39,7 +39,15 @@ fn listed(rt: &HostRuntime, list: &str) -> Result<Vec<Text>, Trouble> {
     };
     let mut names = Vec::with_capacity(rt.alloc(), rows.as_slice().len())?;
     for row in rows.into_vec() {
-        names.push(row.path).map_err(AllocError::from)?;
+        names.push(path_in(row)).map_err(AllocError::from)?;
     }
     Ok(names)
+}
+
+// The path that a row has: of a snapshot's file, or of a timetable's folder.
+fn path_in(row: ListRow) -> Text {
+    match row {
+        ListRow::Snapshot(row) => row.path,
+        ListRow::Timetable(folder) => folder,
+    }
 }

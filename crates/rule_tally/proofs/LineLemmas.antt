@@ -4,6 +4,7 @@ use Rattle.std.specs.List.{count_by, filter_map}
 use Rattle.std.proofs.lemmas.List.Elements.{filter_map-append}
 use Rattle.std.proofs.lemmas.Slice.Eq.{bytes_eq-Decides}
 use Rattle.std.proofs.lemmas.List.Sums.{fold_push, sum_by_push}
+use Rattle.rule_tally.specs.declared.first_line.Behind.{Behind}
 use Rattle.rule_tally.specs.declared.first_line.FirstLine.{FirstLine}
 use Rattle.rule_tally.specs.declared.telling.Telling.{Telling}
 use Rattle.rule_tally.specs.declared.telling.Telling.TheVariants as telling
@@ -51,48 +52,48 @@ changed t = changed_place t.telling
 
 module _ (before : List Told) where
   -- the first line of a finding or an opening
-  first_more : (t : Told) → is_found t ≡ true → kept (first_of (filter_map found_line before)) t.moment t.line ≡ first_of (filter_map found_line (before ++ t ∷ []))
-  first_more t is = sym (first_of-push (filter_map found_line before) t.moment t.line) ∙ ap first_of (one_more found_line before t (first_line t.moment t.line) (rw is refl))
+  first_more : (t : Told) → is_found t ≡ true → kept (first_of (filter_map found_line before)) t.behind t.line ≡ first_of (filter_map found_line (before ++ t ∷ []))
+  first_more t is = sym (first_of-push (filter_map found_line before) t.behind t.line) ∙ ap first_of (one_more found_line before t (first_line t.behind t.line) (rw is refl))
 
   -- an entity of `check`, behind the last one or behind another
-  judging : (entity : List ℕ) (moment : Option ℕ) (line : List ℕ) (b : Bool) → is_last (last_of (filter_map judged before)) entity ≡ b
+  judging : (entity : List ℕ) (behind : Behind) (line : List ℕ) (b : Bool) → is_last (last_of (filter_map judged before)) entity ≡ b
       → let tally = tally_of before in
       let now : Tally = cond b tally (record tally { stretches = tally.stretches + 1; last = Some entity }) in
-      let all : Tally = record now { findings = tally.findings + 1; first = kept tally.first moment line } in
-      all ≡ tally_of (before ++ told (telling.Finding (Some entity)) moment line ∷ [])
-  judging entity moment line true is =
-      let t = told (telling.Finding (Some entity)) moment line in
+      let all : Tally = record now { findings = tally.findings + 1; first = kept tally.first behind line } in
+      all ≡ tally_of (before ++ told (telling.Finding (Some entity)) behind line ∷ [])
+  judging entity behind line true is =
+      let t = told (telling.Finding (Some entity)) behind line in
       let texts = filter_map judged before in
       let more = one_more judged before t entity refl in
       let last : last_of texts ≡ last_of (texts ++ entity ∷ []) = is_same (last_of texts) entity is ∙ sym (last_of-push texts entity) in
       let none : stretches texts ≡ stretches (texts ++ entity ∷ []) = rw (stretches-push texts entity, is) (omega arith) in
       same (counted is_found before t refl) (uncounted is_closed before t refl) (none ∙ ap stretches more) (last ∙ ap last_of more) (ap marks_of (none_more opened before t refl))
       (ap marks_of (none_more changed before t refl)) (first_more t refl)
-  judging entity moment line false is =
-      let t = told (telling.Finding (Some entity)) moment line in
+  judging entity behind line false is =
+      let t = told (telling.Finding (Some entity)) behind line in
       let texts = filter_map judged before in
       let more = one_more judged before t entity refl in
       let one : stretches texts + 1 ≡ stretches (texts ++ entity ∷ []) = rw (stretches-push texts entity, is) refl in
       same (counted is_found before t refl) (uncounted is_closed before t refl) (one ∙ ap stretches more) (sym (last_of-push texts entity) ∙ ap last_of more)
       (ap marks_of (none_more opened before t refl)) (ap marks_of (none_more changed before t refl)) (first_more t refl)
 
-  pub one_line : (telling : Telling) (moment : Option ℕ) (line : List ℕ) → with_line (tally_of before) telling moment line ≡ tally_of (before ++ told telling moment line ∷ [])
-  one_line (telling.Finding None) moment line =
-      let t = told (telling.Finding None) moment line in
+  pub one_line : (telling : Telling) (behind : Behind) (line : List ℕ) → with_line (tally_of before) telling behind line ≡ tally_of (before ++ told telling behind line ∷ [])
+  one_line (telling.Finding None) behind line =
+      let t = told (telling.Finding None) behind line in
       same (counted is_found before t refl) (uncounted is_closed before t refl) (ap stretches (none_more judged before t refl)) (ap last_of (none_more judged before t refl))
       (ap marks_of (none_more opened before t refl)) (ap marks_of (none_more changed before t refl)) (first_more t refl)
-  one_line (telling.Finding (Some entity)) moment line = judging entity moment line (is_last (last_of (filter_map judged before)) entity) refl
-  one_line (telling.Opened None place) moment line =
-      let t = told (telling.Opened None place) moment line in
+  one_line (telling.Finding (Some entity)) behind line = judging entity behind line (is_last (last_of (filter_map judged before)) entity) refl
+  one_line (telling.Opened None place) behind line =
+      let t = told (telling.Opened None place) behind line in
       same (counted is_found before t refl) (uncounted is_closed before t refl) (ap stretches (none_more judged before t refl)) (ap last_of (none_more judged before t refl))
       (ap marks_of (none_more opened before t refl)) (marked_more (filter_map changed before) place true ∙ ap marks_of (one_more changed before t (place, true) refl)) (first_more t refl)
-  one_line (telling.Opened (Some entity) place) moment line =
-      let t = told (telling.Opened (Some entity) place) moment line in
+  one_line (telling.Opened (Some entity) place) behind line =
+      let t = told (telling.Opened (Some entity) place) behind line in
       same (counted is_found before t refl) (uncounted is_closed before t refl) (ap stretches (none_more judged before t refl)) (ap last_of (none_more judged before t refl))
       (marked_more (filter_map opened before) entity true ∙ ap marks_of (one_more opened before t (entity, true) refl))
       (marked_more (filter_map changed before) place true ∙ ap marks_of (one_more changed before t (place, true) refl)) (first_more t refl)
-  one_line (telling.Closed place) moment line =
-      let t = told (telling.Closed place) moment line in
+  one_line (telling.Closed place) behind line =
+      let t = told (telling.Closed place) behind line in
       same (uncounted is_found before t refl) (counted is_closed before t refl) (ap stretches (none_more judged before t refl)) (ap last_of (none_more judged before t refl))
       (ap marks_of (none_more opened before t refl)) (marked_more (filter_map changed before) place false ∙ ap marks_of (one_more changed before t (place, false) refl))
       (ap first_of (none_more found_line before t refl))

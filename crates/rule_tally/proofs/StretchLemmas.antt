@@ -1,6 +1,7 @@
 -- Stretches of texts, with one more.
-use Rattle.std.proofs.Common.{◌≡◌, ◌+◌, ℕ, not, List, [], ◌∷◌, ◌++◌, Option, Some, refl, ap, arith}
+use Rattle.std.proofs.Common.{◌≡◌, ◌+◌, ℕ, not, List, [], ◌∷◌, ◌++◌, Some, refl, ap, arith}
 use Rattle.std.specs.Str.{bytes_eq}
+use Rattle.rule_tally.specs.declared.first_line.Behind.{Behind}
 use Rattle.rule_tally.specs.declared.first_line.FirstLine.{FirstLine}
 use Rattle.rule_tally.specs.Tallies.{changes, first_line, first_of, is_last, kept, last_behind, last_of, one_if, stretches}
 
@@ -21,6 +22,6 @@ pub last_of-push : (ts : List (List ℕ)) (t : List ℕ) → last_of (ts ++ t �
 last_of-push [] t = refl
 last_of-push (u ∷ ts) t = ap Some (last_behind-push u ts t)
 
-pub first_of-push : (ts : List FirstLine) (moment : Option ℕ) (line : List ℕ) → first_of (ts ++ first_line moment line ∷ []) ≡ kept (first_of ts) moment line
-first_of-push [] moment line = refl
-first_of-push (u ∷ ts) moment line = refl
+pub first_of-push : (ts : List FirstLine) (behind : Behind) (line : List ℕ) → first_of (ts ++ first_line behind line ∷ []) ≡ kept (first_of ts) behind line
+first_of-push [] behind line = refl
+first_of-push (u ∷ ts) behind line = refl

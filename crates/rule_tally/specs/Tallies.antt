@@ -3,22 +3,23 @@ use Rattle.std.specs.Prelude.{◌+◌, ℕ, Bool, true, false, not, List, [], �
 use Rattle.std.specs.List.{count_by, filter_map}
 use Rattle.std.specs.Str.{bytes_eq}
 use Rattle.rule_tally.specs.Names.{Marks, marks_of, with_mark}
+use Rattle.rule_tally.specs.declared.first_line.Behind.{Behind}
 use Rattle.rule_tally.specs.declared.first_line.FirstLine.{FirstLine}
 use Rattle.rule_tally.specs.declared.telling.Telling.{Telling}
 use Rattle.rule_tally.specs.declared.telling.Telling.TheVariants as telling
 use Rattle.rule_tally.specs.declared.tally.Tally.{Tally}
 
--- a line of the rule, with what it tells, and with the moment of the snapshot that it tells of, where that is known
+-- a line of the rule, with what it tells, and what it stands behind
 pub record Told : Type 0 where
   pub telling : Telling
-  pub moment : Option ℕ
+  pub behind : Behind
   pub line : List ℕ
 
-abbrev pub told : Telling → Option ℕ → List ℕ → Told
-told telling moment line = record { telling = telling; moment = moment; line = line }
+abbrev pub told : Telling → Behind → List ℕ → Told
+told telling behind line = record { telling = telling; behind = behind; line = line }
 
-abbrev pub first_line : Option ℕ → List ℕ → FirstLine
-first_line moment line = record { moment = moment; line = line }
+abbrev pub first_line : Behind → List ℕ → FirstLine
+first_line behind line = record { behind = behind; line = line }
 
 -- ---- what one line tells
 -- that the rule breaks at a place, or came to
@@ -34,9 +35,9 @@ is_found t = finds t.telling
 abbrev pub is_closed : Told → Bool
 is_closed t = not (finds t.telling)
 
--- the line of a finding or opening, with its moment: of `follow` the one at which the rule came to break there
+-- the line of a finding or opening, with what it stands behind: of `follow` the snapshot or timetable with which the rule came to break there
 abbrev pub found_line : Told → Option FirstLine
-found_line t = if is_found t then Some (first_line t.moment t.line) else None
+found_line t = if is_found t then Some (first_line t.behind t.line) else None
 
 -- the entity of a line of `check`
 abbrev pub judged_entity : Telling → Option (List ℕ)
@@ -111,25 +112,25 @@ abbrev pub marked_entity : Marks → Option (List ℕ) → Marks
 marked_entity marks None = marks
 marked_entity marks (Some entity) = with_mark marks entity true
 
-abbrev pub kept : Option FirstLine → Option ℕ → List ℕ → Option FirstLine
-kept None moment line = Some (first_line moment line)
-kept (Some first) moment line = Some first
+abbrev pub kept : Option FirstLine → Behind → List ℕ → Option FirstLine
+kept None behind line = Some (first_line behind line)
+kept (Some first) behind line = Some first
 
-abbrev pub with_finding : Tally → Option (List ℕ) → Option ℕ → List ℕ → Tally
-with_finding tally entity moment line = record (met_entity tally entity) { findings = tally.findings + 1; first = kept tally.first moment line }
+abbrev pub with_finding : Tally → Option (List ℕ) → Behind → List ℕ → Tally
+with_finding tally entity behind line = record (met_entity tally entity) { findings = tally.findings + 1; first = kept tally.first behind line }
 
-abbrev pub with_opening : Tally → Option (List ℕ) → List ℕ → Option ℕ → List ℕ → Tally
-with_opening tally entity place moment line = record tally {
+abbrev pub with_opening : Tally → Option (List ℕ) → List ℕ → Behind → List ℕ → Tally
+with_opening tally entity place behind line = record tally {
   findings = tally.findings + 1;
   entities = marked_entity tally.entities entity;
   places = with_mark tally.places place true;
-  first = kept tally.first moment line;
+  first = kept tally.first behind line;
 }
 
 abbrev pub with_closing : Tally → List ℕ → Tally
 with_closing tally place = record tally { closings = tally.closings + 1; places = with_mark tally.places place false }
 
-abbrev pub with_line : Tally → Telling → Option ℕ → List ℕ → Tally
-with_line tally (telling.Finding entity) moment line = with_finding tally entity moment line
-with_line tally (telling.Opened entity place) moment line = with_opening tally entity place moment line
-with_line tally (telling.Closed place) moment line = with_closing tally place
+abbrev pub with_line : Tally → Telling → Behind → List ℕ → Tally
+with_line tally (telling.Finding entity) behind line = with_finding tally entity behind line
+with_line tally (telling.Opened entity place) behind line = with_opening tally entity place behind line
+with_line tally (telling.Closed place) behind line = with_closing tally place

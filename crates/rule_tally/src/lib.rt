@@ -7,7 +7,7 @@
 //! - `counting`: one more
 //! - `telling`: what a line tells of its rule
 //! - `names`: names, each once, with a mark
-//! - `first_line`: the first line of a rule
+//! - `first_line`: the first line of a rule, and what it stands behind
 //! - `tally`: the lines of one rule
 //! - `laws`: laws of the definitions
 #![tactic(auto)]
@@ -20,7 +20,7 @@ mod tally;
 mod telling;
 
 pub use counting::one_more;
-pub use first_line::FirstLine;
+pub use first_line::{Behind, FirstLine};
 pub use laws::names_have_their_last_mark;
 pub use names::Names;
 pub use tally::Tally;

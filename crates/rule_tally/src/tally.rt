@@ -3,7 +3,7 @@ ghost use Rattle.std.specs.Prelude.{◌≡◌, ◌++◌, ◌∷◌, [], OnOk, Li
 ghost use Rattle.rule_tally.specs.Tallies.{Told, is_last, kept, marked_entity, met, met_entity, tally_of, told, with_closing, with_finding, with_line, with_opening};
 
 use crate::counting::one_more;
-use crate::first_line::FirstLine;
+use crate::first_line::{Behind, FirstLine};
 use crate::names::Names;
 use crate::telling::Telling;
 use feed_values::{Items, Text};
@@ -44,32 +44,32 @@ impl Tally {
         }
     }
 
-    /// Takes one line more, which tells this of the rule, at the moment of the snapshot that it tells of. After a fault it is no tally of
+    /// Takes one line more, which tells this of the rule, and stands behind this. After a fault it is no tally of
     /// these lines.
     pub fn take(
         &mut self,
         alloc: Global,
         telling: &Telling,
-        moment: Option<u64>,
+        behind: Behind,
         line: &[u8],
     ) -> Result<(), AllocError>
-        ensures { OnOk result ((before : List Told) → self.old ≡ tally_of before → self.new ≡ tally_of (before ++ told telling.now moment line.now ∷ [])) }
+        ensures { OnOk result ((before : List Told) → self.old ≡ tally_of before → self.new ≡ tally_of (before ++ told telling.now behind line.now ∷ [])) }
     {
-        self.add(alloc, telling, moment, line)
+        self.add(alloc, telling, behind, line)
     }
 
     fn add(
         &mut self,
         alloc: Global,
         telling: &Telling,
-        moment: Option<u64>,
+        behind: Behind,
         line: &[u8],
     ) -> Result<(), AllocError>
-        ensures { OnOk result (self.new ≡ with_line self.old telling.now moment line.now) }
+        ensures { OnOk result (self.new ≡ with_line self.old telling.now behind line.now) }
     {
         match telling {
-            Telling::Finding(entity) => self.find(alloc, entity, moment, line),
-            Telling::Opened(entity, place) => self.open(alloc, entity, place, moment, line),
+            Telling::Finding(entity) => self.find(alloc, entity, behind, line),
+            Telling::Opened(entity, place) => self.open(alloc, entity, place, behind, line),
             Telling::Closed(place) => self.close(alloc, place),
         }
     }
@@ -78,16 +78,16 @@ impl Tally {
         &mut self,
         alloc: Global,
         entity: &Option<Text>,
-        moment: Option<u64>,
+        behind: Behind,
         line: &[u8],
     ) -> Result<(), AllocError>
-        ensures { OnOk result (self.new ≡ with_finding self.old entity.now moment line.now) }
+        ensures { OnOk result (self.new ≡ with_finding self.old entity.now behind line.now) }
     {
         self.findings = one_more(self.findings)?;
         if let Some(entity) = entity {
             self.meet(alloc, entity)?;
         }
-        keep(alloc, &mut self.first, moment, line)
+        keep(alloc, &mut self.first, behind, line)
     }
 
     fn open(
@@ -95,15 +95,15 @@ impl Tally {
         alloc: Global,
         entity: &Option<Text>,
         place: &Text,
-        moment: Option<u64>,
+        behind: Behind,
         line: &[u8],
     ) -> Result<(), AllocError>
-        ensures { OnOk result (self.new ≡ with_opening self.old entity.now place.now moment line.now) }
+        ensures { OnOk result (self.new ≡ with_opening self.old entity.now place.now behind line.now) }
     {
         self.findings = one_more(self.findings)?;
         mark_given(alloc, &mut self.entities, entity)?;
         self.places.mark(alloc, place.as_str(), true)?;
-        keep(alloc, &mut self.first, moment, line)
+        keep(alloc, &mut self.first, behind, line)
     }
 
     fn close(&mut self, alloc: Global, place: &Text) -> Result<(), AllocError>
@@ -148,14 +148,14 @@ fn mark_given(alloc: Global, names: &mut Names, name: &Option<Text>) -> Result<(
 fn keep(
     alloc: Global,
     first: &mut Option<FirstLine>,
-    moment: Option<u64>,
+    behind: Behind,
     line: &[u8],
 ) -> Result<(), AllocError>
-    ensures { OnOk result (first.new ≡ kept first.old moment line.now) }
+    ensures { OnOk result (first.new ≡ kept first.old behind line.now) }
 {
     if first.is_none() {
         *first = Some(FirstLine {
-            moment,
+            behind,
             line: Items::from_vec(Vec::from_slice(alloc, line)?),
         });
     }

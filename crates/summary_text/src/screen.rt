@@ -9,9 +9,9 @@ use crate::visible::push_visible;
 use crate::wrapped::push_wrapped;
 use feed_values::Text;
 use report_counts::Counts;
-use report_lines::{RefusedLine, count_at, tree_of};
+use report_lines::{RefusedLine, RefusedTimetable, count_at, tree_of};
 use rule_table::RuleId;
-use rule_tally::Tally;
+use rule_tally::{Behind, Tally};
 use serde_json::Value;
 use std::alloc::{AllocError, Global};
 use std::fmt::Write;
@@ -23,6 +23,7 @@ pub fn screen_of(alloc: Global, counts: &Counts, names: &[Text]) -> Result<Strin
     }
     let mut out = String::new(alloc);
     push_snapshots(alloc, &mut out, counts, names)?;
+    push_timetables(alloc, &mut out, counts)?;
     push_others(alloc, &mut out, counts)?;
     push_sum(alloc, &mut out, counts)?;
     for rule in &ranked(alloc, counts)? {
@@ -69,6 +70,50 @@ fn push_refusal(
     push_grouped(alloc, &mut text, refusal.at)?;
     text.push_str(".")?;
     push_wrapped(out, "    ", text.as_str())
+}
+
+// Timetables that were exchanged, or refused, where there are any.
+fn push_timetables(alloc: Global, out: &mut String, counts: &Counts) -> Result<(), AllocError> {
+    if counts.exchanged == 0 && counts.refused_timetables == 0 {
+        return Ok(());
+    }
+    push_counted(alloc, out, counts.exchanged, "timetable", "timetables")?;
+    out.push_str(" exchanged, ")?;
+    push_grouped(alloc, out, counts.refused_timetables)?;
+    out.push_str(" refused.\n")?;
+    let refusals = counts.timetable_refusals.as_slice();
+    for refusal in refusals {
+        push_refused_timetable(alloc, out, refusal)?;
+    }
+    push_more(alloc, out, counts.refused_timetables, refusals.len())
+}
+
+fn push_refused_timetable(
+    alloc: Global,
+    out: &mut String,
+    refusal: &RefusedTimetable,
+) -> Result<(), AllocError> {
+    let mut text = String::new(alloc);
+    text.push_str("Refused: row ")?;
+    push_grouped(alloc, &mut text, refusal.row)?;
+    text.push_str(",")?;
+    push_words(&mut text, refusal.text.as_str())?;
+    text.push_str(".")?;
+    push_wrapped(out, "    ", text.as_str())
+}
+
+// The first words of a text, a blank before each, of which none is wider than a line.
+fn push_words(out: &mut String, text: &str) -> Result<(), AllocError> {
+    let mut left: usize = 24;
+    for word in text.split(' ') {
+        if left == 0 {
+            return out.push_str(" ...");
+        }
+        left -= 1;
+        out.push_str(" ")?;
+        push_visible(out, word, 70)?;
+    }
+    Ok(())
 }
 
 fn name_of(names: &[Text], row: u64) -> Option<&str> {
@@ -138,7 +183,7 @@ fn push_rule(
     push_wrapped(out, "    ", numbers.as_str())?;
     match &tally.first {
         Some(first) => match tree_of(alloc, first.line.as_slice())? {
-            Some(finding) => push_first(alloc, out, rule, tally, first.moment, &finding),
+            Some(finding) => push_first(alloc, out, rule, tally, first.behind, &finding),
             None => Ok(()),
         },
         None => push_wrapped(out, "    ", meaning_of(rule, false)),
@@ -169,7 +214,7 @@ fn push_first(
     out: &mut String,
     rule: RuleId,
     tally: &Tally,
-    moment: Option<u64>,
+    behind: Behind,
     finding: &Value,
 ) -> Result<(), AllocError> {
     push_wrapped(out, "    ", meaning_of(rule, is_on_header(finding)))?;
@@ -177,18 +222,24 @@ fn push_first(
     text.push_str("First: ")?;
     push_place(&mut text, finding)?;
     if tally.places.len() > 0 {
-        push_opening(&mut text, moment, finding)?;
+        push_opening(&mut text, behind, finding)?;
     }
     text.push_str(": ")?;
     push_sentence(alloc, &mut text, finding)?;
     push_wrapped(out, "    ", text.as_str())
 }
 
-// Which snapshot opened it, and when that was.
-fn push_opening(out: &mut String, moment: Option<u64>, finding: &Value) -> Result<(), AllocError> {
+// Which snapshot opened it, or which timetable behind that one, and when the snapshot was taken.
+fn push_opening(out: &mut String, behind: Behind, finding: &Value) -> Result<(), AllocError> {
     let since = count_at(finding, "since").unwrap_or(0);
-    write!(out, ", opened by snapshot {since}")?;
-    match moment {
+    match behind.timetable {
+        Some(row) => write!(
+            out,
+            ", opened by the timetable of row {row} behind snapshot {since}"
+        )?,
+        None => write!(out, ", opened by snapshot {since}")?,
+    }
+    match behind.moment {
         Some(moment) => write!(out, " at {moment}"),
         None => Ok(()),
     }

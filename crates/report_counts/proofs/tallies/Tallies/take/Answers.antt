@@ -7,7 +7,7 @@ use Rattle.report_counts.proofs.tallies.Tallies.take.Goals as goal
 pub returns-then-index-len : goal.returns-then-index-len
 returns-then-index-len c =
     on_ok_weaker c.take.result
-    (λ taken before start. taken_at before c.args.rule (told c.args.telling.now c.args.moment c.args.line.now) c.self.inside.tallies.items c.number-index.result c.index_mut-tally.result.now c.take.new.self
+    (λ taken before start. taken_at before c.args.rule (told c.args.telling.now c.args.behind c.args.line.now) c.self.inside.tallies.items c.number-index.result c.index_mut-tally.result.now c.take.new.self
     (c.self.view_is ∙ start) c.number-index.ensures c.index_mut-tally.ensures.value taken)
     c.take.ensures
 

@@ -6,4 +6,4 @@ use Rattle.rule_tally.proofs.tally.Tally.take.Goals as goal
 
 pub returns : goal.returns
 returns c =
-    on_ok_weaker c.add.result (λ e before same. e ∙ ap (λ t. with_line t c.args.telling.now c.args.moment c.args.line.now) same ∙ one_line before c.args.telling.now c.args.moment c.args.line.now) c.add.ensures
+    on_ok_weaker c.add.result (λ e before same. e ∙ ap (λ t. with_line t c.args.telling.now c.args.behind c.args.line.now) same ∙ one_line before c.args.telling.now c.args.behind c.args.line.now) c.add.ensures
