@@ -419,15 +419,20 @@ def check_routes(browser, lines, said):
     expect("what is counted adds up", sum(numbers), len(said.findings))
 
 
-def check_time(browser, lines, said):
-    """How many stood after each snapshot, by the slider and by the filter."""
-    load(browser, lines, "#view=time")
-    shown = browser.ask("""[...Array(%d).keys()].map(position => {
+def slider_words(browser, count):
+    """What the slider says at each of its so many positions."""
+    return browser.ask("""[...Array(%d).keys()].map(position => {
         const slider = document.querySelector('#time input');
         slider.value = position;
         slider.dispatchEvent(new Event('input'));
-        return Number(slider.getAttribute('aria-valuetext').match(/: ([0-9,]+) finding/)[1].replace(/,/g, ''));
-    })""" % len(said.after))
+        return slider.getAttribute('aria-valuetext');
+    })""" % count)
+
+
+def check_time(browser, lines, said):
+    """How many stood after each snapshot, by the slider and by the filter."""
+    load(browser, lines, "#view=time")
+    shown = [int(re.search(": ([0-9,]+) finding", words)[1].replace(",", "")) for words in slider_words(browser, len(said.after))]
     expect("what stood when", shown, said.after)
     expect("rows of the plot", browser.ask("document.querySelectorAll('#time svg path').length"), 1 + len(said.rules()))
     load(browser, lines, "#view=findings&at=20")
@@ -439,12 +444,7 @@ def check_time(browser, lines, said):
 def check_exchanged(browser, lines, said):
     """What a timetable changed stands at its line, and not at that of the snapshot before it."""
     load(browser, lines, "#view=time")
-    told = browser.ask("""[...Array(%d).keys()].map(position => {
-        const slider = document.querySelector('#time input');
-        slider.value = position;
-        slider.dispatchEvent(new Event('input'));
-        return slider.getAttribute('aria-valuetext');
-    })""" % len(said.after))
+    told = slider_words(browser, len(said.after))
     expect("what stood behind each line", [int(re.search("([0-9]+) finding", words)[1]) for words in told], [0, 2, 3, 4, 3, 3, 3])
     expect("which lines these are", [re.match("After (the timetable of row [0-9]+|snapshot [0-9]+)", words)[1] for words in told],
            ["the timetable of row 0", "snapshot 0", "the timetable of row 2", "snapshot 1", "the timetable of row 6", "snapshot 2", "the timetable of row 8"])
