@@ -11,7 +11,7 @@ use rule_table::EntityKey;
 use std::marker::Model;
 
 /// An alert, and the key of its entity. Contracts see of it its key, when it is shown and whom it concerns.
-#[derive(Debug, Drop)]
+#[derive(Drop)]
 pub struct AlertTerms<'a> {
     key: &'a EntityKey,
     alert: &'a Alert,

@@ -18,7 +18,7 @@ use Rattle.rule_table.specs.Cited.{values_of}
 use Rattle.rule_table.specs.Order.{slot_number}
 use Rattle.rule_table.specs.Passed.{passes}
 use Rattle.evidence.specs.DoesBreak.{are_formed, does_break, has_place, is_asked, is_listed}
-use Rattle.evidence.proofs.SameAsks.{ask_is, ask_same, never, slot_is}
+use Rattle.rule_table.proofs.SameAsks.{ask_is, ask_same, never, slot_is}
 
 -- ---- a place
 plain_is : (b c : Bool) (n : ℕ) → (b || n == 0) ≡ true → b ≡ false → n ≡ 0

@@ -1,3 +1,2 @@
 pub mod Forms
-pub mod SameAsks
 pub mod Decided

@@ -9,7 +9,7 @@ use rule_table::{EntityKey, Ids, Kind};
 use std::alloc::{AllocError, Global};
 
 /// The ids that a trip update or a vehicle position of an entity gives. Rows are ordered by kind, then feed, id and occurrence.
-#[derive(Debug, PartialEq, Eq, PartialOrd, Ord, Drop)]
+#[derive(PartialEq, Eq, PartialOrd, Ord, Drop)]
 pub struct PairRow {
     pub kind: Kind,
     /// From 0.

@@ -7,3 +7,4 @@ pub mod Marking
 pub mod FactsEnd
 pub mod CountedMore
 pub mod SameKeys
+pub mod SameAsks

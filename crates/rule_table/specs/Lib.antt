@@ -3,6 +3,7 @@ pub mod Rows
 pub mod Rules
 pub mod Kinds
 pub mod Asked
+pub mod Keys
 pub mod Passed
 pub mod Cited
 pub mod Broken

@@ -1,14 +1,16 @@
 //! What is asked, owned and borrowed.
 ghost use Rattle.std.specs.Prelude.{◌≡◌, ◌↔◌, IsTrue, IfOk};
 ghost use Rattle.rule_table.specs.Asked.{ask_value};
+ghost use Rattle.rule_table.specs.Parts.{parts_of};
 
 use crate::kind::Kind;
+use crate::parts::{are_same, parts_of};
 use feed_values::{Path, Slot, Text};
 use std::alloc::{AllocError, Global};
 
 /// What a fact asks. Each ask is answered for a place, after a history of snapshots and with a timetable; a yes is 1 and a
 /// no is 0.
-#[derive(Debug, Drop)]
+#[derive(Drop)]
 pub enum Ask {
     /// The cell of the place's entity at a path.
     Cell(Path),
@@ -67,7 +69,7 @@ pub enum Ask {
 }
 
 /// The same with borrowed texts.
-#[derive(Clone, Copy, Debug)]
+#[derive(Clone, Copy)]
 pub enum AskRef<'a> {
     Cell(Path),
     HeadNow(Slot),
@@ -152,97 +154,53 @@ impl AskRef<'_> {
     pub fn to_ask(self, alloc: Global) -> Result<Ask, AllocError>
         ensures { IfOk result (λ ask. ask ≡ ask_value self.entry) }
     {
-        let ask = match self {
-            AskRef::Cell(p) => Ask::Cell(p),
-            AskRef::HeadNow(s) => Ask::HeadNow(s),
-            AskRef::HeadBefore(s) => Ask::HeadBefore(s),
+        let parts = parts_of(self);
+        let first = text_of(alloc, parts.first)?;
+        let second = text_of(alloc, parts.second)?;
+        Ok(self.with_texts(first, second))
+    }
+
+    /// The ask with the texts that it is asked of. What it isn't asked of is given up.
+    fn with_texts(self, first: Text, second: Text) -> Ask
+        requires first { first ≡ (parts_of (ask_value self)).first }
+        requires second { second ≡ (parts_of (ask_value self)).second }
+        ensures { result ≡ ask_value self.entry }
+    {
+        match self {
+            AskRef::Cell(path) => Ask::Cell(path),
+            AskRef::HeadNow(slot) => Ask::HeadNow(slot),
+            AskRef::HeadBefore(slot) => Ask::HeadBefore(slot),
             AskRef::Moment => Ask::Moment,
             AskRef::Occurrence => Ask::Occurrence,
             AskRef::EntitiesChanged => Ask::EntitiesChanged,
-            AskRef::TripKnown(trip) => Ask::TripKnown(text_of(alloc, trip)?),
-            AskRef::RouteKnown(route) => Ask::RouteKnown(text_of(alloc, route)?),
-            AskRef::AgencyKnown(agency) => Ask::AgencyKnown(text_of(alloc, agency)?),
-            AskRef::StopKind(stop) => Ask::StopKind(text_of(alloc, stop)?),
-            AskRef::TripRoute(trip) => Ask::TripRoute(text_of(alloc, trip)?),
-            AskRef::TripDirection(trip) => Ask::TripDirection(text_of(alloc, trip)?),
-            AskRef::TripExact(trip) => Ask::TripExact(text_of(alloc, trip)?),
-            AskRef::OnGrid(trip, time) => Ask::OnGrid(text_of(alloc, trip)?, text_of(alloc, time)?),
-            AskRef::VisitsTwice(trip) => Ask::VisitsTwice(text_of(alloc, trip)?),
-            AskRef::FirstArrival(trip) => Ask::FirstArrival(text_of(alloc, trip)?),
-            AskRef::StopAt(trip, sequence) => Ask::StopAt(text_of(alloc, trip)?, sequence),
-            AskRef::ArrivalAt(trip, sequence) => Ask::ArrivalAt(text_of(alloc, trip)?, sequence),
-            AskRef::DepartureAt(trip, sequence) => Ask::DepartureAt(
-                text_of(alloc, trip)?,
-                sequence,
-            ),
-            AskRef::FirstVehicle(kind, trip) => Ask::FirstVehicle(kind, text_of(alloc, trip)?),
-            AskRef::HasPair(kind, trip, vehicle) => Ask::HasPair(
-                kind,
-                text_of(alloc, trip)?,
-                text_of(alloc, vehicle)?,
-            ),
+            AskRef::TripKnown(_) => Ask::TripKnown(first),
+            AskRef::RouteKnown(_) => Ask::RouteKnown(first),
+            AskRef::AgencyKnown(_) => Ask::AgencyKnown(first),
+            AskRef::StopKind(_) => Ask::StopKind(first),
+            AskRef::TripRoute(_) => Ask::TripRoute(first),
+            AskRef::TripDirection(_) => Ask::TripDirection(first),
+            AskRef::TripExact(_) => Ask::TripExact(first),
+            AskRef::OnGrid(_, _) => Ask::OnGrid(first, second),
+            AskRef::VisitsTwice(_) => Ask::VisitsTwice(first),
+            AskRef::FirstArrival(_) => Ask::FirstArrival(first),
+            AskRef::StopAt(_, sequence) => Ask::StopAt(first, sequence),
+            AskRef::ArrivalAt(_, sequence) => Ask::ArrivalAt(first, sequence),
+            AskRef::DepartureAt(_, sequence) => Ask::DepartureAt(first, sequence),
+            AskRef::FirstVehicle(kind, _) => Ask::FirstVehicle(kind, first),
+            AskRef::HasPair(kind, _, _) => Ask::HasPair(kind, first, second),
             AskRef::AnyRow(kind) => Ask::AnyRow(kind),
-            AskRef::HasTrip(kind, trip) => Ask::HasTrip(kind, text_of(alloc, trip)?),
-            AskRef::HasVehicle(kind, vehicle) => Ask::HasVehicle(kind, text_of(alloc, vehicle)?),
-            AskRef::FirstId(feed, vehicle) => Ask::FirstId(feed, text_of(alloc, vehicle)?),
-            AskRef::FirstOccurrence(feed, vehicle) => Ask::FirstOccurrence(
-                feed,
-                text_of(alloc, vehicle)?,
-            ),
-            AskRef::Peak(feed, vehicle) => Ask::Peak(feed, text_of(alloc, vehicle)?),
-        };
-        Ok(ask)
+            AskRef::HasTrip(kind, _) => Ask::HasTrip(kind, first),
+            AskRef::HasVehicle(kind, _) => Ask::HasVehicle(kind, first),
+            AskRef::FirstId(feed, _) => Ask::FirstId(feed, first),
+            AskRef::FirstOccurrence(feed, _) => Ask::FirstOccurrence(feed, first),
+            AskRef::Peak(feed, _) => Ask::Peak(feed, first),
+        }
     }
 
     /// Whether it is an owned ask.
     pub fn is_ask(self, ask: &Ask) -> bool
         ensures { IsTrue result ↔ (ask_value self.entry ≡ ask.now) }
     {
-        match (self, ask) {
-            (AskRef::Cell(p), Ask::Cell(other)) => p.is_path(*other),
-            (AskRef::HeadNow(s), Ask::HeadNow(other)) => s.is_slot(*other),
-            (AskRef::HeadBefore(s), Ask::HeadBefore(other)) => s.is_slot(*other),
-            (AskRef::Moment, Ask::Moment) => true,
-            (AskRef::Occurrence, Ask::Occurrence) => true,
-            (AskRef::EntitiesChanged, Ask::EntitiesChanged) => true,
-            (AskRef::TripKnown(trip), Ask::TripKnown(other)) => trip == other.as_str(),
-            (AskRef::RouteKnown(route), Ask::RouteKnown(other)) => route == other.as_str(),
-            (AskRef::AgencyKnown(agency), Ask::AgencyKnown(other)) => agency == other.as_str(),
-            (AskRef::StopKind(stop), Ask::StopKind(other)) => stop == other.as_str(),
-            (AskRef::TripRoute(trip), Ask::TripRoute(other)) => trip == other.as_str(),
-            (AskRef::TripDirection(trip), Ask::TripDirection(other)) => trip == other.as_str(),
-            (AskRef::TripExact(trip), Ask::TripExact(other)) => trip == other.as_str(),
-            (AskRef::OnGrid(trip, time), Ask::OnGrid(first, second)) => trip == first.as_str()
-                && time == second.as_str(),
-            (AskRef::VisitsTwice(trip), Ask::VisitsTwice(other)) => trip == other.as_str(),
-            (AskRef::FirstArrival(trip), Ask::FirstArrival(other)) => trip == other.as_str(),
-            (AskRef::StopAt(trip, sequence), Ask::StopAt(first, second)) => trip == first.as_str()
-                && sequence == *second,
-            (AskRef::ArrivalAt(trip, sequence), Ask::ArrivalAt(first, second)) => trip
-                == first.as_str()
-                && sequence == *second,
-            (AskRef::DepartureAt(trip, sequence), Ask::DepartureAt(first, second)) => trip
-                == first.as_str()
-                && sequence == *second,
-            (AskRef::FirstVehicle(kind, trip), Ask::FirstVehicle(first, second)) => kind.is_kind(
-                *first,
-            ) && trip == second.as_str(),
-            (AskRef::HasPair(kind, trip, vehicle), Ask::HasPair(first, second, third)) =>
-                kind.is_kind(*first) && trip == second.as_str() && vehicle == third.as_str(),
-            (AskRef::AnyRow(kind), Ask::AnyRow(other)) => kind.is_kind(*other),
-            (AskRef::HasTrip(kind, trip), Ask::HasTrip(first, second)) => kind.is_kind(*first)
-                && trip == second.as_str(),
-            (AskRef::HasVehicle(kind, vehicle), Ask::HasVehicle(first, second)) => kind.is_kind(
-                *first,
-            ) && vehicle == second.as_str(),
-            (AskRef::FirstId(feed, vehicle), Ask::FirstId(first, second)) => feed == *first
-                && vehicle == second.as_str(),
-            (AskRef::FirstOccurrence(feed, vehicle), Ask::FirstOccurrence(first, second)) => feed
-                == *first
-                && vehicle == second.as_str(),
-            (AskRef::Peak(feed, vehicle), Ask::Peak(first, second)) => feed == *first
-                && vehicle == second.as_str(),
-            _ => false,
-        }
+        are_same(parts_of(self), parts_of(ask.borrowed()))
     }
 }

@@ -3,6 +3,7 @@ ghost use Rattle.std.specs.Prelude.{◌≡◌, map, List, IfSome, Some};
 ghost use Rattle.std.specs.Option.{option_map};
 ghost use Rattle.feed_values.specs.Cells.{cell_value};
 ghost use Rattle.rule_table.specs.Asked.{ask_value, fact_value, place_value, path_at, place_ask, cell_ask, feed_of, trip_id_of, start_time_of, start_date_of, relationship_of, delay_of, time_of, holder_of, event_ask, other_kind, id_ask, ask_at, text_at, sequence_at, value_at};
+ghost use Rattle.rule_table.specs.Keys.{keys_value, text_keys, two_keys, stop_keys, keys_at, ask_with};
 ghost use Rattle.rule_table.specs.Cited.{fact_at, answered, value_from};
 ghost use Rattle.rule_table.specs.declared.ask.Ask.{Ask};
 ghost use Rattle.rule_table.specs.declared.ask.Ask.TheVariants as Asks;
@@ -182,52 +183,135 @@ fn cell(place: PlaceRef<'_>, slot: Slot, index: u32) -> AskRef<'static>
     }
 }
 
-/// What a row's entry asks at a place, after the cells that were cited before it. None where a text or a number that it
-/// names isn't there.
-pub fn ask_of<'a>(place: PlaceRef<'_>, cells: &[CellRef<'a>], cite: Cite) -> Option<AskRef<'a>>
-    ensures { option_map ask_value result ≡ ask_at (place_value place.entry) (map cell_value cells.now) cite }
+/// The texts and the number of a stop that an entry names. What it doesn't name is empty or 0.
+#[derive(Clone, Copy)]
+struct Keys<'a> {
+    text: &'a str,
+    other: &'a str,
+    sequence: u32,
+}
+
+fn text_keys<'a>(cells: &[CellRef<'a>], k: usize) -> Option<Keys<'a>>
+    ensures { option_map keys_value result ≡ text_keys (text_at (map cell_value cells.now) k) }
+{
+    match text_at(cells, k) {
+        Some(text) => Some(Keys {
+            text,
+            other: "",
+            sequence: 0,
+        }),
+        None => None,
+    }
+}
+
+fn two_keys<'a>(cells: &[CellRef<'a>], j: usize, k: usize) -> Option<Keys<'a>>
+    ensures { option_map keys_value result ≡ two_keys (text_at (map cell_value cells.now) j) (text_at (map cell_value cells.now) k) }
+{
+    match (text_at(cells, j), text_at(cells, k)) {
+        (Some(text), Some(other)) => Some(Keys {
+            text,
+            other,
+            sequence: 0,
+        }),
+        _ => None,
+    }
+}
+
+fn stop_keys<'a>(cells: &[CellRef<'a>], j: usize, k: usize) -> Option<Keys<'a>>
+    ensures { option_map keys_value result ≡ stop_keys (text_at (map cell_value cells.now) j) (sequence_at (map cell_value cells.now) k) }
+{
+    match (text_at(cells, j), sequence_at(cells, k)) {
+        (Some(text), Some(sequence)) => Some(Keys {
+            text,
+            other: "",
+            sequence,
+        }),
+        _ => None,
+    }
+}
+
+/// The keys that an entry names among the cells that were cited before it. None where one isn't there.
+fn keys_of<'a>(cells: &[CellRef<'a>], cite: Cite) -> Option<Keys<'a>>
+    ensures { option_map keys_value result ≡ keys_at (map cell_value cells.now) cite }
+{
+    match cite {
+        Cite::TripKnown(k)
+        | Cite::RouteKnown(k)
+        | Cite::AgencyKnown(k)
+        | Cite::StopKind(k)
+        | Cite::TripRoute(k)
+        | Cite::TripDirection(k)
+        | Cite::TripExact(k)
+        | Cite::VisitsTwice(k)
+        | Cite::FirstArrival(k)
+        | Cite::FirstVehicle(k)
+        | Cite::HasId(k)
+        | Cite::FirstId(k)
+        | Cite::FirstOccurrence(k)
+        | Cite::Peak(k) => text_keys(cells, k),
+        Cite::OnGrid(j, k) | Cite::HasPair(j, k) => two_keys(cells, j, k),
+        Cite::StopAt(j, k) | Cite::EventAt(j, k) => stop_keys(cells, j, k),
+        _ => Some(Keys {
+            text: "",
+            other: "",
+            sequence: 0,
+        }),
+    }
+}
+
+/// What an entry asks at a place of keys that are given.
+fn ask_with<'a>(place: PlaceRef<'_>, keys: Keys<'a>, cite: Cite) -> AskRef<'a>
+    ensures { ask_value result ≡ ask_with (place_value place.entry) (keys_value keys.entry) cite }
 {
     let slot = place.slot();
     let index = place.index();
     match cite {
-        Cite::Place => Some(own_cell(place)),
-        Cite::Cell(named) => Some(cell(place, named, index)),
-        Cite::Before(named) => Some(cell(place, named, index.saturating_sub(1))),
-        Cite::TripId => Some(cell(place, trip_id(slot), index)),
-        Cite::StartTime => Some(cell(place, start_time(slot), index)),
-        Cite::StartDate => Some(cell(place, start_date(slot), index)),
-        Cite::Relationship => Some(cell(place, relationship(slot), index)),
-        Cite::Delay => Some(cell(place, delay(slot), index)),
-        Cite::Time => Some(cell(place, time(slot), index)),
-        Cite::Holder => Some(cell(place, holder(slot), index)),
-        Cite::HeadNow(named) => Some(AskRef::HeadNow(named)),
-        Cite::HeadBefore(named) => Some(AskRef::HeadBefore(named)),
-        Cite::Moment => Some(AskRef::Moment),
-        Cite::Occurrence => Some(AskRef::Occurrence),
-        Cite::EntitiesChanged => Some(AskRef::EntitiesChanged),
-        Cite::TripKnown(k) => Some(AskRef::TripKnown(text_at(cells, k)?)),
-        Cite::RouteKnown(k) => Some(AskRef::RouteKnown(text_at(cells, k)?)),
-        Cite::AgencyKnown(k) => Some(AskRef::AgencyKnown(text_at(cells, k)?)),
-        Cite::StopKind(k) => Some(AskRef::StopKind(text_at(cells, k)?)),
-        Cite::TripRoute(k) => Some(AskRef::TripRoute(text_at(cells, k)?)),
-        Cite::TripDirection(k) => Some(AskRef::TripDirection(text_at(cells, k)?)),
-        Cite::TripExact(k) => Some(AskRef::TripExact(text_at(cells, k)?)),
-        Cite::OnGrid(j, k) => Some(AskRef::OnGrid(text_at(cells, j)?, text_at(cells, k)?)),
-        Cite::VisitsTwice(k) => Some(AskRef::VisitsTwice(text_at(cells, k)?)),
-        Cite::FirstArrival(k) => Some(AskRef::FirstArrival(text_at(cells, k)?)),
-        Cite::StopAt(j, k) => Some(AskRef::StopAt(text_at(cells, j)?, sequence_at(cells, k)?)),
-        Cite::EventAt(j, k) => Some(event(slot, text_at(cells, j)?, sequence_at(cells, k)?)),
-        Cite::FirstVehicle(k) => Some(AskRef::FirstVehicle(other(slot), text_at(cells, k)?)),
-        Cite::HasPair(j, k) => Some(AskRef::HasPair(
-            other(slot),
-            text_at(cells, j)?,
-            text_at(cells, k)?,
-        )),
-        Cite::AnyRow => Some(AskRef::AnyRow(other(slot))),
-        Cite::HasId(k) => Some(has_id(slot, text_at(cells, k)?)),
-        Cite::FirstId(k) => Some(AskRef::FirstId(feed(place), text_at(cells, k)?)),
-        Cite::FirstOccurrence(k) => Some(AskRef::FirstOccurrence(feed(place), text_at(cells, k)?)),
-        Cite::Peak(k) => Some(AskRef::Peak(feed(place), text_at(cells, k)?)),
+        Cite::Place => own_cell(place),
+        Cite::Cell(named) => cell(place, named, index),
+        Cite::Before(named) => cell(place, named, index.saturating_sub(1)),
+        Cite::TripId => cell(place, trip_id(slot), index),
+        Cite::StartTime => cell(place, start_time(slot), index),
+        Cite::StartDate => cell(place, start_date(slot), index),
+        Cite::Relationship => cell(place, relationship(slot), index),
+        Cite::Delay => cell(place, delay(slot), index),
+        Cite::Time => cell(place, time(slot), index),
+        Cite::Holder => cell(place, holder(slot), index),
+        Cite::HeadNow(named) => AskRef::HeadNow(named),
+        Cite::HeadBefore(named) => AskRef::HeadBefore(named),
+        Cite::Moment => AskRef::Moment,
+        Cite::Occurrence => AskRef::Occurrence,
+        Cite::EntitiesChanged => AskRef::EntitiesChanged,
+        Cite::TripKnown(_) => AskRef::TripKnown(keys.text),
+        Cite::RouteKnown(_) => AskRef::RouteKnown(keys.text),
+        Cite::AgencyKnown(_) => AskRef::AgencyKnown(keys.text),
+        Cite::StopKind(_) => AskRef::StopKind(keys.text),
+        Cite::TripRoute(_) => AskRef::TripRoute(keys.text),
+        Cite::TripDirection(_) => AskRef::TripDirection(keys.text),
+        Cite::TripExact(_) => AskRef::TripExact(keys.text),
+        Cite::OnGrid(_, _) => AskRef::OnGrid(keys.text, keys.other),
+        Cite::VisitsTwice(_) => AskRef::VisitsTwice(keys.text),
+        Cite::FirstArrival(_) => AskRef::FirstArrival(keys.text),
+        Cite::StopAt(_, _) => AskRef::StopAt(keys.text, keys.sequence),
+        Cite::EventAt(_, _) => event(slot, keys.text, keys.sequence),
+        Cite::FirstVehicle(_) => AskRef::FirstVehicle(other(slot), keys.text),
+        Cite::HasPair(_, _) => AskRef::HasPair(other(slot), keys.text, keys.other),
+        Cite::AnyRow => AskRef::AnyRow(other(slot)),
+        Cite::HasId(_) => has_id(slot, keys.text),
+        Cite::FirstId(_) => AskRef::FirstId(feed(place), keys.text),
+        Cite::FirstOccurrence(_) => AskRef::FirstOccurrence(feed(place), keys.text),
+        Cite::Peak(_) => AskRef::Peak(feed(place), keys.text),
+    }
+}
+
+/// What a row's entry asks at a place, after the cells that were cited before it. None where a text or a number that it
+/// names isn't there.
+#[tactic(auto, using(crate::specs::Keys::asked))]
+pub fn ask_of<'a>(place: PlaceRef<'_>, cells: &[CellRef<'a>], cite: Cite) -> Option<AskRef<'a>>
+    ensures { option_map ask_value result ≡ ask_at (place_value place.entry) (map cell_value cells.now) cite }
+{
+    match keys_of(cells, cite) {
+        Some(keys) => Some(ask_with(place, keys, cite)),
+        None => None,
     }
 }
 

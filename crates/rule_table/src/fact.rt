@@ -9,14 +9,14 @@ use feed_values::{CellRef, CellValue, Items};
 use std::alloc::{AllocError, Global};
 
 /// An ask and what was answered.
-#[derive(Debug, Drop)]
+#[derive(Drop)]
 pub struct Fact {
     pub ask: Ask,
     pub value: CellValue,
 }
 
 /// The same, borrowed.
-#[derive(Clone, Copy, Debug)]
+#[derive(Clone, Copy)]
 pub struct FactRef<'a> {
     pub ask: AskRef<'a>,
     pub cell: CellRef<'a>,
@@ -46,10 +46,9 @@ impl FactRef<'_> {
     pub fn to_fact(self, alloc: Global) -> Result<Fact, AllocError>
         ensures { IfOk result (λ fact. fact ≡ fact_value self.entry) }
     {
-        Ok(Fact {
-            ask: self.ask.to_ask(alloc)?,
-            value: value_of(alloc, self.cell)?,
-        })
+        let value = value_of(alloc, self.cell)?;
+        let ask = self.ask.to_ask(alloc)?;
+        Ok(Fact { ask, value })
     }
 }
 

@@ -5,7 +5,7 @@ use feed_values::Text;
 use std::alloc::{AllocError, Global};
 
 /// An entity of the last snapshot of a feed. Keys are ordered by feed, then id, then occurrence.
-#[derive(Debug, PartialEq, Eq, PartialOrd, Ord, Drop)]
+#[derive(PartialEq, Eq, PartialOrd, Ord, Drop)]
 pub struct EntityKey {
     /// From 0.
     pub feed: u8,

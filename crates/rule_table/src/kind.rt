@@ -7,7 +7,7 @@ ghost use Rattle.rule_table.specs.Kinds.{kind_number, kind_cmp, same_kind, kinds
 use std::cmp::Ordering;
 
 /// What a pairing row stands for. A trip update comes before a vehicle position.
-#[derive(Clone, Copy, Debug)]
+#[derive(Clone, Copy)]
 pub enum Kind {
     TripUpdate,
     Vehicle,

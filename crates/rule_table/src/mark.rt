@@ -3,7 +3,7 @@
 use crate::rule::RuleId;
 
 /// A rule that breaks at a place of an entity: a finding without its facts, which takes little memory.
-#[derive(Clone, Copy, Debug)]
+#[derive(Clone, Copy)]
 pub struct Mark {
     pub rule: RuleId,
     /// Which of the rule's slots, from 0.

@@ -7,14 +7,14 @@ use feed_values::{Path, Slot};
 use std::alloc::{AllocError, Global};
 
 /// Where a finding stands: at a slot of a feed's last header, or at a path of an entity.
-#[derive(Debug, Drop)]
+#[derive(Drop)]
 pub enum Place {
     Head(u8, Slot),
     Entity(EntityKey, Path),
 }
 
 /// The same with a borrowed key.
-#[derive(Clone, Copy, Debug)]
+#[derive(Clone, Copy)]
 pub enum PlaceRef<'a> {
     Head(u8, Slot),
     Entity(&'a EntityKey, Path),

@@ -5,7 +5,7 @@ use feed_values::Slot;
 /// One cited fact of a row: which ask it makes, from the place and from the values cited before it, which it names by
 /// their numbers from 0. At a place on a header a cell is one of the last header; at an entity it is one of the entity,
 /// at the place's index where the slot leads through a list.
-#[derive(Clone, Copy, Debug)]
+#[derive(Clone, Copy)]
 pub enum Cite {
     /// The cell of the place.
     Place,
@@ -67,7 +67,7 @@ pub enum Cite {
 }
 
 /// One condition of a row's test, on the values of its facts, which it names by their numbers from 0.
-#[derive(Clone, Copy, Debug)]
+#[derive(Clone, Copy)]
 pub enum Atom {
     Given(usize),
     Missing(usize),

@@ -6,7 +6,7 @@ ghost use Rattle.rule_table.specs.Rules.{rule_name, rule_number, level};
 ///
 /// The names that begin with E are errors, those with W warnings, and those with X errors of this profile's own. The
 /// numbers are those of MobilityData's gtfs-realtime-validator, RULES.md; what a rule says is its row in `specs/Table.antt`.
-#[derive(Clone, Copy, Debug, PartialEq, Eq)]
+#[derive(Clone, Copy, PartialEq, Eq)]
 pub enum RuleId {
     E001,
     E002,

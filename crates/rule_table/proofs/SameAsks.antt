@@ -1,5 +1,5 @@
 -- Asks that are the same by their numbers and texts are equal.
-use Rattle.std.proofs.Common.{◌≡◌, ◌==◌, ◌&&◌, ℕ, true, false, List, [], ◌∷◌, Option, Some, bytes_eq, refl, sym, ap, ◌∙◌, eq-eqb}
+use Rattle.std.proofs.Common.{◌≡◌, ◌↔◌, IsTrue, ◌==◌, ◌&&◌, ℕ, Bool, true, false, List, [], ◌∷◌, Option, Some, bytes_eq, refl, sym, ap, ◌∙◌, eq-eqb}
 use Rattle.std.specs.Prelude.{find}
 use Rattle.std.proofs.lemmas.Bool.{and_parts, and_from, eqb-true}
 use Rattle.std.proofs.lemmas.Option.{same_Some}
@@ -15,6 +15,7 @@ use Rattle.rule_table.specs.declared.kind.Kind.TheVariants as kind
 use Rattle.rule_table.specs.Kinds.{same_kind}
 use Rattle.rule_table.specs.Order.{same_path, slot_number}
 use Rattle.rule_table.specs.SameFacts.{same_ask}
+use Rattle.rule_table.specs.Parts.{parts_of, same_parts, parts_same}
 
 pub never : {P : Type 0} → false ≡ true → P
 never e = absurd (cc)
@@ -136,3 +137,9 @@ ask_same (ask.HasVehicle k a) = and_from _ _ (kind_same k) (text_same a)
 ask_same (ask.FirstId f a) = and_from _ _ (number_same f) (text_same a)
 ask_same (ask.FirstOccurrence f a) = and_from _ _ (number_same f) (text_same a)
 ask_same (ask.Peak f a) = and_from _ _ (number_same f) (text_same a)
+
+-- what compares the parts of asks tells whether the asks are equal
+pub is_by_parts : (same : Bool) (a b : Ask) → same ≡ same_parts (parts_of a) (parts_of b) → IsTrue same ↔ (a ≡ b)
+is_by_parts same a b e =
+    ((λ h. ask_is a b (parts_same a b ∙ sym e ∙ h)),
+     (λ h. e ∙ sym (parts_same a b) ∙ ap (same_ask a) (sym h) ∙ ask_same a))
