@@ -7,7 +7,7 @@ ghost use Rattle.feed_codec.specs.Paths as paths;
 use rt_wire::{Fields, RawField, RawValue};
 
 /// What is looked for in the messages at a path.
-#[derive(Clone, Copy, Debug, PartialEq, Eq)]
+#[derive(Clone, Copy, PartialEq, Eq)]
 pub enum Sought {
     /// A payload of this slot.
     Payload(u32),

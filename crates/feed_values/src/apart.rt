@@ -9,7 +9,7 @@ use std::marker::Model;
 use std::ops::Deref;
 
 /// A message that takes one word where it stands, so that what may hold it is small where it doesn't.
-#[derive(Debug, Drop)]
+#[derive(Drop)]
 pub struct Apart<M: Drop> {
     held: Box<M>,
 }

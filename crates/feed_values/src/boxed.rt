@@ -9,7 +9,7 @@ use std::alloc::{AllocError, Global};
 use std::marker::Model;
 
 /// A message that takes memory only where it holds something, so that a list of messages that hold nothing is small.
-#[derive(Debug, Drop)]
+#[derive(Drop)]
 pub struct Boxed<M: Blank> {
     held: Option<Box<M>>,
 }

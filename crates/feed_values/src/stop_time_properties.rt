@@ -9,7 +9,7 @@ use crate::{Items, Text, Unknown, UnknownValue};
 use std::alloc::{AllocError, Global};
 
 /// Properties of a stop time that differ from those in the timetable. (GTFS Realtime Reference 2.0, "StopTimeProperties".)
-#[derive(Debug, Drop)]
+#[derive(Drop)]
 pub struct StopTimeProperties {
     /// The stop, as in stops.txt, at which the vehicle stops in place of the one that the timetable has.
     pub assigned_stop_id: Option<Text>,

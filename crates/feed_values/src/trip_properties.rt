@@ -10,7 +10,7 @@ use std::alloc::{AllocError, Global};
 
 /// Properties of a trip that differ from those in the timetable: of a duplicated trip its own id, day and time.
 /// (GTFS Realtime Reference 2.0, "TripProperties".)
-#[derive(Debug, Drop)]
+#[derive(Drop)]
 pub struct TripProperties {
     /// One of its own: no trip of trips.txt has it.
     pub trip_id: Option<Text>,

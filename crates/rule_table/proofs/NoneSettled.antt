@@ -27,6 +27,7 @@ use Rattle.rule_table.specs.Settled.{names, fails, is_place, settled_from, settl
 use Rattle.rule_table.proofs.Formed.{unbroken, broken-cited}
 use Rattle.rule_table.proofs.Stopping.{value_stays, none_after}
 use Rattle.rule_table.proofs.NoneThere.{after}
+use Rattle.rule_table.proofs.SameAsks.{never}
 
 either : (a b : Bool) (P : Type 0) → (a || b) ≡ true → (a ≡ true → P) → (b ≡ true → P) → P
 either true b P h f g = f refl
@@ -34,9 +35,6 @@ either false b P h f g = g h
 
 either_is : (j k n : ℕ) (P : Type 0) → (j == n || k == n) ≡ true → (j ≡ n → P) → (k ≡ n → P) → P
 either_is j k n P h f g = either (j == n) (k == n) P h (λ e. f (eqb-true j n e)) (λ e. g (eqb-true k n e))
-
-never : {P : Type 0} → false ≡ true → P
-never h = absurd (cc h)
 
 and_none : (a b : Bool) → (a && false && b) ≡ false
 and_none true b = refl

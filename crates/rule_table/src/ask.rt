@@ -100,14 +100,6 @@ pub enum AskRef<'a> {
     Peak(u8, &'a str),
 }
 
-fn text_of(alloc: Global, text: &str) -> Result<Text, AllocError>
-    ensures { IfOk result (λ owned. owned ≡ text.now) }
-{
-    let mut owned = Text::new(alloc);
-    owned.push(text)?;
-    Ok(owned)
-}
-
 impl Ask {
     /// The ask with its texts borrowed.
     pub fn borrowed(&self) -> AskRef<'_>
@@ -155,8 +147,8 @@ impl AskRef<'_> {
         ensures { IfOk result (λ ask. ask ≡ ask_value self.entry) }
     {
         let parts = parts_of(self);
-        let first = text_of(alloc, parts.first)?;
-        let second = text_of(alloc, parts.second)?;
+        let first = Text::of(alloc, parts.first)?;
+        let second = Text::of(alloc, parts.second)?;
         Ok(self.with_texts(first, second))
     }
 

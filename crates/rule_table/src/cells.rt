@@ -83,11 +83,7 @@ pub(crate) fn value_of(alloc: Global, cell: CellRef<'_>) -> Result<CellValue, Al
     match cell {
         CellRef::Missing => Ok(CellValue::Missing),
         CellRef::Number(number) => Ok(CellValue::Number(number)),
-        CellRef::Text(text) => {
-            let mut owned = Text::new(alloc);
-            owned.push(text)?;
-            Ok(CellValue::Text(owned))
-        }
+        CellRef::Text(text) => Ok(CellValue::Text(Text::of(alloc, text)?)),
     }
 }
 
