@@ -46,7 +46,7 @@ abbrev pub seat_found : Bool → Option ℕ → Option HeldSeat → Option HeldS
 seat_found phase None o = o
 seat_found phase (Some i) o = option_map (seated i phase) o
 
-no_more : {A : Type 0} (k l : EntityKey) (es : List (EntityKey × A)) → same_key k l ≡ true → Each (λ e. same_key k e.0 ≡ false) es → at_key l es ≡ None
+pub no_more : {A : Type 0} (k l : EntityKey) (es : List (EntityKey × A)) → same_key k l ≡ true → Each (λ e. same_key k e.0 ≡ false) es → at_key l es ≡ None
 no_more k l es m h = none_at es l (each_weaken (λ e. same_key k e.0 ≡ false) (λ e. same_key e.0 l ≡ false) (λ e n. flip e.0 (ap (λ x. same_key x e.0) (sym (key_is k l m)) ∙ n)) es h)
   where
     flip : (q : EntityKey) → same_key l q ≡ false → same_key q l ≡ false

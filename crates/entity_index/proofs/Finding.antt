@@ -124,6 +124,11 @@ module _ (f : ℕ) (ps : List (List ℕ)) (i : ℕ) (l : i < length ps) where
         either true = append_assoc found (key_here ∷ []) (fresh_left (left (i + 1)))
         either false = refl
 
+-- where nothing was held all are fresh
+pub all_other : (es : List Keyed) → filter (is_other []) es ≡ es
+all_other [] = refl
+all_other (e ∷ es) = ap (λ xs. e ∷ xs) (all_other es)
+
 pub found_end : (f : ℕ) (ps : List (List ℕ)) (i : ℕ) (found all : List EntityKey) → length ps ≤ i → found ++ map (λ e. e.0) (keyed_after f (take i ps) (drop i ps)) ≡ all → found ≡ all
 found_end f ps i found all l h = sym (append-nil found) ∙ ap (λ xs. found ++ map (λ (e : Keyed). e.0) (keyed_after f (take i ps) xs)) (sym (drop_all i ps l)) ∙ h
 
@@ -273,7 +278,7 @@ among-at {A} k (e ∷ es) = either (same_key e.0 k) refl (among-at k es)
     either true h rest = ap (λ b. b || among k (map (λ d. d.0) es)) h ∙ sym (ap is_some (at_first e es k h))
     either false h rest = ap (λ b. b || among k (map (λ d. d.0) es)) h ∙ rest ∙ sym (ap is_some (at_later e es k h))
 
-among-last : (k : EntityKey) (xs : List EntityKey) (x : EntityKey) → among k (xs ++ x ∷ []) ≡ (among k xs || same_key x k)
+pub among-last : (k : EntityKey) (xs : List EntityKey) (x : EntityKey) → among k (xs ++ x ∷ []) ≡ (among k xs || same_key x k)
 among-last k [] x = or_false (same_key x k)
   where
     or_false : (b : Bool) → (b || false) ≡ b

@@ -1,5 +1,5 @@
 -- What is of another phase is let go.
-use Rattle.std.specs.Prelude.{◌≡◌, Bool, true, false, ◌||◌, not, cond, List, [], ◌∷◌, filter, Option, Some, None, refl}
+use Rattle.std.specs.Prelude.{◌≡◌, Bool, true, false, cond, [], ◌∷◌, filter, Option, Some, None, refl}
 use mathlib.Core.Bool.{beq}
 use Rattle.std.proofs.Common.{◌∙◌, ap, sym}
 use Rattle.rule_table.specs.declared.key.EntityKey.{EntityKey}
@@ -7,46 +7,23 @@ use Rattle.rule_table.specs.Order.{same_key}
 use Rattle.engine_laws.specs.HeldFeeds.{AreApart}
 use Rattle.entity_index.specs.Held.{at_key}
 use Rattle.entity_index.specs.Seats.{HeldSeat, Seats}
-use Rattle.entity_index.specs.Put.{Under, other_keys, staying}
-use Rattle.entity_index.proofs.AtKey.{at-filter}
-use Rattle.entity_index.proofs.Finding.{among, among-at}
+use Rattle.entity_index.specs.Put.{staying}
+use Rattle.entity_index.proofs.AtKey.{at_first, at_later}
+use Rattle.entity_index.proofs.Coming.{no_more}
 
--- keys taken out one by one
-abbrev pub out_one : EntityKey → Under → Under
-out_one key under k = cond (same_key key k) None (under k)
-
-abbrev pub out_all : List EntityKey → Under → Under
-out_all [] under = under
-out_all (key ∷ keys) under = out_all keys (out_one key under)
-
-pub out-same : (keys : List EntityKey) (f g : Under) → ((k : EntityKey) → f k ≡ g k) → (k : EntityKey) → out_all keys f k ≡ out_all keys g k
-out-same [] f g h k = h k
-out-same (key ∷ keys) f g h k = out-same keys (out_one key f) (out_one key g) (λ q. ap (cond (same_key key q) None) (h q)) k
-
-out-among : (keys : List EntityKey) (f : Under) (k : EntityKey) → out_all keys f k ≡ cond (among k keys) None (f k)
-out-among [] f k = refl
-out-among (key ∷ keys) f k = out-among keys (out_one key f) k ∙ either (same_key key k) (among k keys) (f k)
+-- what is left is what stays
+pub those_left : (phase : Bool) (es : Seats) → AreApart es → (k : EntityKey) → at_key k (filter (λ (e : EntityKey × HeldSeat). beq e.1.phase phase) es) ≡ staying phase (at_key k es)
+those_left phase [] a k = refl
+those_left phase (e ∷ es) a k = either (same_key e.0 k) refl (beq e.1.phase phase) refl (those_left phase es a.1 k)
   where
-    either : (a b : Bool) (o : Option HeldSeat) → cond b None (cond a None o) ≡ cond (a || b) None o
-    either true true o = refl
-    either true false o = refl
-    either false b o = refl
+    left : Seats
+    left = filter (λ (x : EntityKey × HeldSeat). beq x.1.phase phase) es
 
--- where they were taken out, what is of the phase stays
-pub out-others : (phase : Bool) (es : Seats) → AreApart es → (k : EntityKey) → out_all (other_keys phase es) (λ q. at_key q es) k ≡ staying phase (at_key k es)
-out-others phase es apart k = out-among (other_keys phase es) (λ q. at_key q es) k ∙ go (at_key k es) refl
-  where
-    by_test : (b : Bool) (s : HeldSeat) → cond (not b) None (Some s) ≡ cond b (Some s) None
-    by_test true s = refl
-    by_test false s = refl
-
-    go : (o : Option HeldSeat) → at_key k es ≡ o → cond (among k (other_keys phase es)) None (at_key k es) ≡ staying phase (at_key k es)
-    go None h = ap (λ o. cond (among k (other_keys phase es)) None o) h ∙ none (among k (other_keys phase es)) ∙ sym (ap (staying phase) h)
-      where
-        none : (b : Bool) → cond b None (let o : Option HeldSeat = None in o) ≡ None
-        none true = refl
-        none false = refl
-    go (Some s) h =
-        ap (λ o. cond (among k (other_keys phase es)) None o) h
-        ∙ ap (λ b. cond b None (Some s)) (among-at k (filter (λ (e : EntityKey × HeldSeat). not (beq e.1.phase phase)) es) ∙ at-filter (λ (e : EntityKey × HeldSeat). not (beq e.1.phase phase)) es k s apart h)
-        ∙ by_test (beq s.phase phase) s ∙ sym (ap (staying phase) h)
+    either : (b : Bool) → same_key e.0 k ≡ b → (c : Bool) → beq e.1.phase phase ≡ c → at_key k left ≡ staying phase (at_key k es) →
+        at_key k (cond (beq e.1.phase phase) (e ∷ left) left) ≡ staying phase (at_key k (e ∷ es))
+    either true m true p rest =
+        ap (λ c. at_key k (cond c (e ∷ left) left)) p ∙ at_first e left k m ∙ sym (ap (staying phase) (at_first e es k m) ∙ ap (λ c. cond c (Some e.1) None) p)
+    either true m false p rest =
+        ap (λ c. at_key k (cond c (e ∷ left) left)) p ∙ rest ∙ ap (staying phase) (no_more e.0 k es m a.0) ∙ sym (ap (staying phase) (at_first e es k m) ∙ ap (λ c. cond c (Some e.1) None) p)
+    either false m true p rest = ap (λ c. at_key k (cond c (e ∷ left) left)) p ∙ at_later e left k m ∙ rest ∙ sym (ap (staying phase) (at_later e es k m))
+    either false m false p rest = ap (λ c. at_key k (cond c (e ∷ left) left)) p ∙ rest ∙ sym (ap (staying phase) (at_later e es k m))

@@ -3,6 +3,7 @@ pub mod Placed
 pub mod Coming
 pub mod Taking
 pub mod Finding
+pub mod Tallied
 pub mod Leaving
 pub mod Counted
 pub mod Tested

@@ -8,3 +8,4 @@ pub mod Inside
 pub mod Handed
 pub mod Met
 pub mod Put
+pub mod Tally

@@ -1,10 +1,10 @@
 -- What is under each key while a snapshot is taken in.
-use Rattle.std.specs.Prelude.{ℕ, Bool, not, List, [], ◌∷◌, map, filter, Option, Some, None, option_map, if◌then◌else◌}
+use Rattle.std.specs.Prelude.{◌≡◌, ℕ, Bool, false, IfSome, List, [], ◌∷◌, Option, Some, None, option_map, if◌then◌else◌}
 use mathlib.Core.Bool.{beq}
 use Rattle.feed_values.specs.Views.{entity_value}
 use Rattle.rule_table.specs.declared.key.EntityKey.{EntityKey}
 use Rattle.rule_table.specs.Order.{same_key}
-use Rattle.entity_index.specs.Seats.{HeldSeat, Seats}
+use Rattle.entity_index.specs.Seats.{HeldSeat}
 use Rattle.entity_index.specs.declared.incoming.Incoming.{Incoming}
 
 -- what is under a key, if anything
@@ -30,15 +30,19 @@ seated place phase seat = record seat { place = place; phase = phase }
 abbrev pub seat_one : Bool → EntityKey × ℕ → Under → Under
 seat_one phase e under key = if same_key e.0 key then option_map (seated e.1 phase) (under key) else under key
 
+-- unless it is of the phase already
+abbrev pub seat_first : Bool → EntityKey × ℕ → Under → Under
+seat_first phase e under key = if same_key e.0 key then option_map (λ seat. if beq seat.phase phase then seat else seated e.1 phase seat) (under key) else under key
+
 abbrev pub seat_all : Bool → List (EntityKey × ℕ) → Under → Under
 seat_all phase [] under = under
 seat_all phase (e ∷ es) under = seat_all phase es (seat_one phase e under)
+
+-- nothing is of a phase
+abbrev pub AreUnseated : Bool → Under → Type 0
+AreUnseated phase under = (key : EntityKey) → IfSome (under key) (λ seat. beq seat.phase phase ≡ false)
 
 -- what is of a phase stays
 abbrev pub staying : Bool → Option HeldSeat → Option HeldSeat
 staying phase None = None
 staying phase (Some seat) = if beq seat.phase phase then Some seat else None
-
--- the keys of what is of another phase
-abbrev pub other_keys : Bool → Seats → List EntityKey
-other_keys phase es = map (λ e. e.0) (filter (λ e. not (beq e.1.phase phase)) es)

@@ -1,9 +1,11 @@
 //! The keys of a snapshot's entities.
-ghost use Rattle.std.specs.Prelude.{◌≡◌, ◌<◌, [], IfOk, map, length, get_or, bytes_eq};
+ghost use Rattle.std.specs.Prelude.{◌≡◌, ◌<◌, ◌+◌, ℕ, List, [], false, IfOk, OnOk, map, length, get_or, bytes_eq};
 ghost use Rattle.std.specs.Cmp.Lexicographic.{pointwise};
 ghost use Rattle.feed_values.specs.Snapshot.{entity_payloads};
+ghost use Rattle.rule_table.specs.Counts.{count_in};
 ghost use Rattle.rule_history.specs.History.{id_of};
 ghost use Rattle.entity_index.specs.Changes.{keyed_in};
+ghost use Rattle.entity_index.specs.Tally.{IsTally, came_then, first_key};
 
 use feed_stream::Kept;
 use feed_values::Text;
@@ -34,6 +36,54 @@ pub(crate) fn keys_by_place(
         })?;
     }
     Ok(keys)
+}
+
+/// The key of an entity of a snapshot as if it were the first one of its id.
+pub(crate) fn first_key(
+    alloc: Global,
+    feed: u8,
+    kept: &Kept,
+    place: usize,
+) -> Result<EntityKey, AllocError>
+    requires { place < length (entity_payloads kept.now) }
+    ensures { IfOk result (λ key. key ≡ first_key feed (id_of (get_or (entity_payloads kept.now) place []))) }
+{
+    Ok(EntityKey {
+        feed,
+        id: Text::of(alloc, kept.entity_id(place))?,
+        occurrence: 0,
+    })
+}
+
+/// No id was counted.
+pub(crate) fn none_counted(alloc: Global) -> BTreeMap<String, u32>
+    ensures { (id : List ℕ) → count_in result id ≡ 0 }
+{
+    BTreeMap::new(alloc)
+}
+
+/// How many of its id stand before an entity. Where the first one of that id is held, what is held tells whether it came, and it isn't counted. So an
+/// id that stands once costs no memory.
+///
+/// Where 2^32 entities have one id, it answers want of memory.
+pub(crate) fn next_occurrence(
+    alloc: Global,
+    counts: &mut BTreeMap<String, u32>,
+    id: &str,
+    first_came: Option<bool>,
+) -> Result<u32, AllocError>
+    ensures occurrence { IfOk result (λ k. (n : ℕ) → IsTally first_came n (count_in counts.old id.now) → k ≡ n) }
+    ensures here { OnOk result ((n : ℕ) → IsTally first_came n (count_in counts.old id.now) → IsTally (came_then first_came) (n + 1) (count_in counts.new id.now)) }
+    ensures others { OnOk result ((other : List ℕ) → bytes_eq id.now other ≡ false → count_in counts.new other ≡ count_in counts.old other) }
+{
+    match first_came {
+        None => count_one(alloc, counts, id),
+        Some(false) => Ok(0),
+        Some(true) => {
+            let before = count_one(alloc, counts, id)?;
+            before.checked_add(1).ok_or(AllocError)
+        }
+    }
 }
 
 /// Whether the entities of two snapshots at a place have one id. Where their bytes are the same they have, and no id is read.

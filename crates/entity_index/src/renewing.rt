@@ -1,18 +1,19 @@
 //! A snapshot is taken in.
-ghost use Rattle.std.specs.Prelude.{◌≡◌, ◌<◌, ℕ, Bool, List, [], Some, None, IfOk, OnOk, map, not, unwrap_or};
-ghost use Rattle.std.specs.BTreeMap.{IsOrdered};
+ghost use Rattle.std.specs.Prelude.{◌≡◌, ◌<◌, ◌+◌, ℕ, false, bytes_eq, Bool, List, [], Some, None, IfOk, OnOk, map, not, unwrap_or, if◌then◌else◌};
 ghost use Rattle.feed_values.specs.Snapshot.{entity_payloads};
 ghost use Rattle.rule_table.specs.declared.key.EntityKey.{EntityKey as Key};
-ghost use Rattle.rule_table.specs.Order.{key_cmp};
+ghost use Rattle.rule_table.specs.Order.{same_key};
+ghost use Rattle.rule_table.specs.Counts.{count_in};
 ghost use Rattle.entity_index.specs.Held.{nothing, at_key, parts_at};
 ghost use Rattle.entity_index.specs.Lists.{no_lists};
 ghost use Rattle.entity_index.specs.Changes.{AreIncoming, changed_under, replaced, set_at};
 ghost use Rattle.entity_index.specs.Rooms.{in_room};
 ghost use Rattle.entity_index.specs.Seats.{AreSeated, occurrences_after, parts_in, placed_after, places_of};
-ghost use Rattle.entity_index.specs.Put.{other_keys, put_all, put_one, seat_all, seat_one, staying};
+ghost use Rattle.entity_index.specs.Put.{AreUnseated, put_all, put_one, seat_all, seat_first, seat_one, staying};
+ghost use Rattle.entity_index.specs.Tally.{IsTally, came_then, phase_at};
 
 use crate::incoming::Incoming;
-use crate::keys::{have_same_ids, keys_by_place};
+use crate::keys::{first_key, have_same_ids, next_occurrence, none_counted};
 use crate::parts::Parts;
 use crate::room::{Room, Seat};
 use feed_stream::Kept;
@@ -26,6 +27,18 @@ fn boxed<T: Drop>(alloc: Global, item: T) -> Result<Box<T>, AllocError>
     ensures { IfOk result (λ b. b.value ≡ item) }
 {
     Ok(Box::new(alloc, item)?)
+}
+
+/// Puts a value in under a key. Of any type, since what a seat gives up costs the check most.
+fn put_under<V: Drop>(
+    entries: &mut BTreeMap<EntityKey, V>,
+    key: EntityKey,
+    value: V,
+) -> Result<(), AllocError>
+    ensures { OnOk result ((k : Key) → at_key k entries.new.entries ≡ (if same_key key k then Some value else at_key k entries.old.entries)) }
+{
+    entries.insert(key, value)?;
+    Ok(())
 }
 
 /// Puts an entity that came in the place of the one under its key, or where none is there puts it in.
@@ -45,7 +58,7 @@ fn put_one(
             Ok(())
         }
         None => {
-            entries.insert(key, Seat::new(phase, entity, parts))?;
+            put_under(entries, key, Seat::new(phase, entity, parts))?;
             Ok(())
         }
     }
@@ -74,7 +87,59 @@ fn seat_one(entries: &mut BTreeMap<EntityKey, Seat>, key: &EntityKey, place: usi
     }
 }
 
-/// Seats each entity of a snapshot at its place, in a phase, and tells how many with the same id stand before each.
+/// Seats what is under a key, unless it was seated in this phase; answers whether it was, if anything is there.
+fn seat_first(
+    entries: &mut BTreeMap<EntityKey, Seat>,
+    key: &EntityKey,
+    place: usize,
+    phase: bool,
+) -> Option<bool>
+    ensures came { result ≡ phase_at phase (at_key key.now entries.old.entries) }
+    ensures seats { (k : Key) → at_key k entries.new.entries ≡ seat_first phase (key.now, place) (λ q. at_key q entries.old.entries) k }
+{
+    match entries.get_mut(key) {
+        None => None,
+        Some(seat) => {
+            let came = seat.phase() == phase;
+            if !came {
+                seat.seat_at(place, phase);
+            }
+            Some(came)
+        }
+    }
+}
+
+/// Seats an entity, whose key is given as that of the first one of its id, and tells how many with the same id stand before it.
+fn seat_next(
+    alloc: Global,
+    entries: &mut BTreeMap<EntityKey, Seat>,
+    first: EntityKey,
+    place: usize,
+    phase: bool,
+    counts: &mut BTreeMap<String, u32>,
+) -> Result<u32, AllocError>
+    requires { first.occurrence ≡ 0 }
+    ensures occurrence { IfOk result (λ k. (n : ℕ) → IsTally (phase_at phase (at_key first entries.old.entries)) n (count_in counts.old first.id) → k ≡ n) }
+    ensures seats { OnOk result ((n : ℕ) → IsTally (phase_at phase (at_key first entries.old.entries)) n (count_in counts.old first.id) →
+        (k : Key) → at_key k entries.new.entries ≡ seat_one phase (record first { occurrence = n }, place) (λ q. at_key q entries.old.entries) k) }
+    ensures here { OnOk result ((n : ℕ) → IsTally (phase_at phase (at_key first entries.old.entries)) n (count_in counts.old first.id) →
+        IsTally (came_then (phase_at phase (at_key first entries.old.entries))) (n + 1) (count_in counts.new first.id)) }
+    ensures others { OnOk result ((other : List ℕ) → bytes_eq first.id other ≡ false → count_in counts.new other ≡ count_in counts.old other) }
+{
+    let came = seat_first(entries, &first, place, phase);
+    let occurrence = next_occurrence(alloc, counts, first.id.as_str(), came)?;
+    match came {
+        Some(false) => Ok(occurrence),
+        _ => {
+            let mut key = first;
+            key.occurrence = occurrence;
+            seat_one(entries, &key, place, phase);
+            Ok(occurrence)
+        }
+    }
+}
+
+/// Seats each entity of a snapshot at its place, in a phase in which none is, and tells how many with the same id stand before each.
 fn seat_all(
     alloc: Global,
     entries: &mut BTreeMap<EntityKey, Seat>,
@@ -82,49 +147,25 @@ fn seat_all(
     kept: &Kept,
     phase: bool,
 ) -> Result<Vec<u32>, AllocError>
+    requires { AreUnseated phase (λ key. at_key key entries.old.entries) }
     ensures seated { OnOk result ((key : Key) → at_key key entries.new.entries ≡ seat_all phase (placed_after feed [] 0 (entity_payloads kept.now)) (λ k. at_key k entries.old.entries) key) }
     ensures occurrences { IfOk result (λ counts. counts.items ≡ occurrences_after [] (entity_payloads kept.now)) }
 {
-    let keys = keys_by_place(alloc, feed, kept)?;
+    let mut counts = none_counted(alloc);
     let mut occurrences = Vec::new(alloc);
     for place in 0..kept.len() {
-        let key = &keys[place];
-        seat_one(entries, key, place, phase);
-        occurrences.push(key.occurrence)?;
+        let first = first_key(alloc, feed, kept, place)?;
+        let occurrence = seat_next(alloc, entries, first, place, phase, &mut counts)?;
+        occurrences.push(occurrence)?;
     }
     Ok(occurrences)
 }
 
-/// The keys of what is of another phase.
-fn of_other_phase(
-    alloc: Global,
-    entries: &BTreeMap<EntityKey, Seat>,
-    phase: bool,
-) -> Result<Vec<EntityKey>, AllocError>
-    ensures keys { IfOk result (λ gone. gone.items ≡ other_keys phase entries.now.entries) }
-    ensures ordered { IsOrdered key_cmp entries.now }
-{
-    let mut gone = Vec::new(alloc);
-    for (key, seat) in entries {
-        if seat.phase() != phase {
-            gone.push(key.clone(alloc)?)?;
-        }
-    }
-    Ok(gone)
-}
-
 /// Lets what is of another phase go.
-fn let_go(
-    alloc: Global,
-    entries: &mut BTreeMap<EntityKey, Seat>,
-    phase: bool,
-) -> Result<(), AllocError>
-    ensures { OnOk result ((key : Key) → at_key key entries.new.entries ≡ staying phase (at_key key entries.old.entries)) }
+fn let_go(entries: &mut BTreeMap<EntityKey, Seat>, phase: bool)
+    ensures { (key : Key) → at_key key entries.new.entries ≡ staying phase (at_key key entries.old.entries) }
 {
-    for key in of_other_phase(alloc, entries, phase)? {
-        entries.remove(&key);
-    }
-    Ok(())
+    entries.retain(|_, seat| seat.phase() == phase);
 }
 
 /// What is held of a feed once its first snapshot was taken in.
@@ -139,7 +180,7 @@ pub(crate) fn first_room(
     ensures held { IfOk result (λ room. in_room (Some room) ≡ replaced feed kept incoming nothing) }
 {
     let mut entries = BTreeMap::new(alloc);
-    put_all(alloc, &mut entries, true, incoming)?;
+    put_all(alloc, &mut entries, false, incoming)?;
     let occurrences = seat_all(alloc, &mut entries, feed, &kept, true)?;
     let _count = entries.len();
     Ok(Room {
@@ -182,7 +223,7 @@ pub(crate) fn next_room(
         });
     }
     let occurrences = seat_all(alloc, &mut entries, feed, &kept, !phase)?;
-    let_go(alloc, &mut entries, !phase)?;
+    let_go(&mut entries, !phase);
     let _count = entries.len();
     Ok(Room {
         feed,

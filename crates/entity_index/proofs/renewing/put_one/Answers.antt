@@ -16,12 +16,12 @@ returns-in-Some c =
     ∙ sym (ap (come c.args.phase came) (sym (found-at old came.key) ∙ sym c.in-Some.ensures.value)))
     (put_at came.key old _ c.renew.new.self ((c.get_mut.follows.holds c.renew.new.self).3 (subst IsSome c.in-Some.ensures.value refl)).0)
 
-pub returns-in_ok-insert-in-None : goal.returns-in_ok-insert-in-None
-returns-in_ok-insert-in-None c = λ k.
+pub returns-in_ok-put_under-in-None : goal.returns-in_ok-put_under-in-None
+returns-in_ok-put_under-in-None c = λ k.
     let came = c.args.came in
     let old = c.args.entries.now.entries in
-    came_in c.args.phase came _ c.insert.new.self.entries c.new.result
+    came_in c.args.phase came _ c.put_under.new.entries.entries c.new.result
     (c.new.ensures ∙ ap (λ e. let s : HeldSeat = record { place = 0; phase = c.args.phase; value = entity_value e; parts = came.parts } in s) c.in_ok-entity.ensures
     ∙ sym (ap (come c.args.phase came) (ap (at_key came.key) (ap (λ m. m.entries) c.get_mut.follows.holds-at-none) ∙ sym (found-at old came.key) ∙ sym c.in-None.ensures.value)))
-    (put_at came.key _ c.insert.new.self.entries c.new.result c.in_ok-insert-in-None.ensures.updates.0) k
+    c.in_ok-put_under-in-None.ensures k
     ∙ ap (λ es. put_one c.args.phase came (λ q. at_key q es) k) (ap (λ m. m.entries) c.get_mut.follows.holds-at-none)
