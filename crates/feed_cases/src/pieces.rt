@@ -17,10 +17,10 @@ fn in_two(alloc: Global, first: &[u8], second: &[u8]) -> Result<Kept, CodecFault
     Splitter::new(alloc).feed(first)?.feed(second)?.finish()
 }
 
-fn byte_by_byte(alloc: Global, bytes: &[u8]) -> Result<Kept, CodecFault> {
+fn byte_by_byte(alloc: Global, bytes: &[u8], before: Option<&Kept>) -> Result<Kept, CodecFault> {
     let mut splitter = Splitter::new(alloc);
     for i in 0..bytes.len() {
-        splitter = splitter.feed(&bytes[i..i + 1])?;
+        splitter = splitter.feed_beside(&bytes[i..i + 1], before)?;
     }
     splitter.finish()
 }
@@ -63,7 +63,7 @@ fn say_cut(alloc: Global, bytes: &[u8], answer: &mut Vec<u8>) -> Result<(), Allo
     let whole = outcome(alloc, bytes, in_one(alloc, bytes))?;
     say(answer, whole.as_str())?;
     say_places(alloc, bytes, whole.as_str(), answer)?;
-    let last = outcome(alloc, bytes, byte_by_byte(alloc, bytes))?;
+    let last = outcome(alloc, bytes, byte_by_byte(alloc, bytes, None))?;
     if last == whole {
         return say(answer, "the same byte by byte");
     }
@@ -95,8 +95,33 @@ fn say_ids(alloc: Global, bytes: &[u8], answer: &mut Vec<u8>) -> Result<(), Allo
 
 // What comes of some bytes one by one.
 fn say_drip(alloc: Global, bytes: &[u8], answer: &mut Vec<u8>) -> Result<(), AllocError> {
-    let told = outcome(alloc, bytes, byte_by_byte(alloc, bytes))?;
+    let told = outcome(alloc, bytes, byte_by_byte(alloc, bytes, None))?;
     say(answer, told.as_str())
+}
+
+// What comes of some bytes, and whether the same comes of them one by one beside a snapshot before.
+fn say_beside(
+    alloc: Global,
+    before: &[u8],
+    bytes: &[u8],
+    answer: &mut Vec<u8>,
+) -> Result<(), AllocError> {
+    let Ok(before) = in_one(alloc, before) else {
+        return say(answer, "refused before");
+    };
+    let whole = outcome(alloc, bytes, in_one(alloc, bytes))?;
+    say(answer, whole.as_str())?;
+    let beside = outcome(alloc, bytes, byte_by_byte(alloc, bytes, Some(&before)))?;
+    if beside == whole {
+        return say(answer, "the same beside it");
+    }
+    say(answer, beside.as_str())
+}
+
+// The bytes up to a place, and those from it on.
+fn parted(bytes: &[u8], at: usize) -> (&[u8], &[u8]) {
+    let at = at.min(bytes.len());
+    (&bytes[..at], &bytes[at..])
 }
 
 fn say_parts(alloc: Global, bytes: &[u8], answer: &mut Vec<u8>) -> Result<(), AllocError> {
@@ -142,7 +167,7 @@ fn say_filled(
     }
 }
 
-/// Answers `cut`, `drip`, `parts`, `ids` and `filled LENGTH`.
+/// Answers `cut`, `drip`, `beside LENGTH`, `parts`, `ids` and `filled LENGTH`. The bytes that `beside` is given begin with a snapshot of that length.
 pub fn answer(
     alloc: Global,
     words: &[String],
@@ -152,6 +177,10 @@ pub fn answer(
     match word(words, 0) {
         "cut" => say_cut(alloc, given, answer)?,
         "drip" => say_drip(alloc, given, answer)?,
+        "beside" => {
+            let (before, bytes) = parted(given, size(words, 1));
+            say_beside(alloc, before, bytes, answer)?
+        }
         "parts" => say_parts(alloc, given, answer)?,
         "ids" => say_ids(alloc, given, answer)?,
         "filled" => say_filled(alloc, given, size(words, 1), answer)?,

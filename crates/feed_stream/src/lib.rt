@@ -13,6 +13,7 @@
 //! `laws` says where an entity stands, in words of the snapshot's fields, and which refusals stay.
 #![tactic(auto)]
 
+mod beside;
 mod header;
 mod kept;
 mod laws;

@@ -1,5 +1,5 @@
 //! A snapshot that arrives in pieces.
-ghost use Rattle.std.specs.Prelude.{◌≡◌, ◌++◌, ◌≤◌, ◌<◌, [], ℕ, List, length, nat_lt, IfOk, Err, None};
+ghost use Rattle.std.specs.Prelude.{◌≡◌, ◌++◌, ◌≤◌, ◌<◌, [], ℕ, List, length, nat_lt, IfOk, OnOk, Err, None};
 ghost use Rattle.feed_values.specs.Accepted.{snapshot_limit};
 ghost use Rattle.feed_codec.specs.Refusal.{refused, refusal};
 ghost use Rattle.feed_codec.specs.declared.refusal.Reason.TheVariants.{TooLarge};
@@ -8,6 +8,7 @@ ghost use Rattle.feed_codec.specs.declared.codec_fault.CodecFault.TheVariants.{M
 ghost use Rattle.feed_stream.specs.Came.{Came};
 ghost use Rattle.feed_stream.specs.Inside.{IsFound, IsWalk, sofar};
 
+use crate::beside::Search;
 use crate::kept::Kept;
 use crate::layout::Layout;
 use crate::walking::{Reached, Through, go_through, refusal_of};
@@ -36,8 +37,28 @@ fn too_large() -> Refusal
     Refusal::new(SNAPSHOT_LIMIT, Reason::TooLarge)
 }
 
-/// Goes on with the next piece.
-fn walk_on(alloc: Global, walk: Walk, piece: &[u8]) -> Result<Found, AllocError>
+/// Appends a piece. The first one makes room for what the snapshot before had and an eighth more, so that bytes are seldom moved while they come.
+fn append(bytes: &mut Vec<u8>, piece: &[u8], before: Option<&Kept>) -> Result<(), AllocError>
+    ensures { OnOk result (bytes.new.items ≡ bytes.old.items ++ piece.now) }
+{
+    if bytes.is_empty() {
+        if let Some(before) = before {
+            let size = before.bytes().len();
+            bytes.reserve(size.saturating_add(size / 8))?;
+        }
+    }
+    bytes.extend_from_slice(piece)?;
+    Ok(())
+}
+
+/// Goes on with the next piece, beside the snapshot before.
+fn walk_on(
+    alloc: Global,
+    walk: Walk,
+    piece: &[u8],
+    before: Option<&Kept>,
+    search: &mut Search,
+) -> Result<Found, AllocError>
     requires { IsWalk walk }
     ensures found { IfOk result IsFound }
     ensures came { IfOk result (λ found. Came (walk.bytes.items ++ piece.now) (sofar found)) }
@@ -54,8 +75,8 @@ fn walk_on(alloc: Global, walk: Walk, piece: &[u8]) -> Result<Found, AllocError>
         ..
     } = reached;
     let mut bytes = bytes;
-    bytes.extend_from_slice(piece)?;
-    match go_through(alloc, &bytes, next, layout, front)? {
+    append(&mut bytes, piece, before)?;
+    match go_through(alloc, &bytes, next, layout, front, before, search)? {
         Through::Stopped(reached) => Ok(Found::Walked(Walk { bytes, reached })),
         Through::Refused(refusal) => Ok(Found::Refused(refusal, count)),
     }
@@ -86,6 +107,7 @@ fn end_of(walk: Walk) -> Result<Kept, CodecFault>
 pub struct Splitter {
     alloc: Global,
     found: Found,
+    search: Search,
 }
 
 impl Model for Splitter {
@@ -117,6 +139,7 @@ impl Splitter {
                     unfinished: None,
                 },
             }),
+            search: Search::new(alloc),
         }
     }
 
@@ -125,14 +148,31 @@ impl Splitter {
         ensures came { IfOk result (λ fed. (b : List ℕ) → Came b self → Came (b ++ piece.now) fed) }
         ensures grows { 0 < length piece.now → self.count ≤ snapshot_limit → IfOk result (λ fed. self.count < fed.count) }
     {
-        let Splitter { alloc, found } = self;
+        self.feed_beside(piece, None)
+    }
+
+    /// Takes the next piece, as `feed` does, beside the snapshot that its feed had before. Entities that stand there with the same bytes passed there, and
+    /// aren't gone through again; whatever it is, what comes of the pieces is the same. After want of memory the splitter is gone.
+    pub fn feed_beside(self, piece: &[u8], before: Option<&Kept>) -> Result<Splitter, AllocError>
+        ensures came { IfOk result (λ fed. (b : List ℕ) → Came b self → Came (b ++ piece.now) fed) }
+        ensures grows { 0 < length piece.now → self.count ≤ snapshot_limit → IfOk result (λ fed. self.count < fed.count) }
+    {
+        let Splitter {
+            alloc,
+            found,
+            mut search,
+        } = self;
         let found = match found {
             Found::Refused(refusal, count) => {
                 Found::Refused(refusal, count.saturating_add(piece.len()))
             }
-            Found::Walked(walk) => walk_on(alloc, walk, piece)?,
+            Found::Walked(walk) => walk_on(alloc, walk, piece, before, &mut search)?,
         };
-        Ok(Splitter { alloc, found })
+        Ok(Splitter {
+            alloc,
+            found,
+            search,
+        })
     }
 
     /// Whether more than 67,108,864 bytes came, so that the snapshot is refused as `TooLarge` whatever comes next.

@@ -8,6 +8,8 @@ ghost use Rattle.feed_stream.specs.Layouts.{IsLayoutOf};
 ghost use Rattle.feed_stream.specs.Walks.{WalkedTo};
 ghost use Rattle.feed_stream.specs.Inside.{IsThrough};
 
+use crate::beside::{Search, stands_before};
+use crate::kept::Kept;
 use crate::layout::Layout;
 use crate::numbers::{ENTITY, HEADER};
 use feed_codec::{Refusal, check_entity, check_header_part, reason_of};
@@ -66,13 +68,32 @@ fn check_part(field: RawField<'_>) -> Result<(), Refusal>
     }
 }
 
-/// Goes through the fields from `from` on, as far as the bytes go. A payload is looked into once it is whole.
+/// The first fault inside a field of a snapshot, which isn't looked for in an entity that passed in the snapshot before.
+fn check_beside(
+    alloc: Global,
+    field: RawField<'_>,
+    before: Option<&Kept>,
+    search: &mut Search,
+) -> Result<Result<(), Refusal>, AllocError>
+    requires { PayloadFits field.body field.end field.value }
+    ensures { IfOk result (λ answer. Answers answer (in_payload part_fault (placed_field field.entry))) }
+{
+    if stands_before(alloc, field, before, search)? {
+        return Ok(Ok(()));
+    }
+    Ok(check_part(field))
+}
+
+/// Goes through the fields from `from` on, as far as the bytes go. A payload is looked into once it is whole, unless it is that of an entity which stands in
+/// the snapshot before.
 pub fn go_through(
     alloc: Global,
     bytes: &[u8],
     from: usize,
     layout: Layout,
     front: Option<Front>,
+    before: Option<&Kept>,
+    search: &mut Search,
 ) -> Result<Through, AllocError>
     requires walked { WalkedTo bytes.now from }
     requires layout { IsLayoutOf bytes.now (placed_fields (take from bytes.now)) layout }
@@ -85,7 +106,7 @@ pub fn go_through(
     while next < bytes.len() {
         match read_on(alloc, front, bytes, next)? {
             FieldSoFar::Plain(field) => {
-                if let Err(refusal) = check_part(field) {
+                if let Err(refusal) = check_beside(alloc, field, before, search)? {
                     return Ok(Through::Refused(refusal));
                 }
                 layout = layout.with(alloc, bytes, field)?;

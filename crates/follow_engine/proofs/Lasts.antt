@@ -1,5 +1,5 @@
 -- The plain data of an engine are what is held of all feeds.
-use Rattle.std.specs.Prelude.{◌≡◌, ℕ, zero, suc, ◌+◌, ◌-◌, ◌*◌, ◌<◌, ◌≤◌, nat_le, true, false, List, [], ◌∷◌, ◌++◌, length, map, get_or, Option, None, refl}
+use Rattle.std.specs.Prelude.{◌≡◌, ℕ, zero, suc, ◌+◌, ◌-◌, ◌*◌, ◌<◌, ◌≤◌, nat_le, true, false, List, [], ◌∷◌, ◌++◌, length, map, get_or, Option, Some, None, option_map, refl}
 use Rattle.std.proofs.Common.{sym, ap, ◌∙◌, subst, arith, length-append}
 use Rattle.std.proofs.lemmas.List.{get_or_past}
 use Rattle.std.proofs.Math.Path.{fun_ext}
@@ -128,6 +128,15 @@ module _ (t : Option Tables) (n : ℕ) (s : Snapshot) (old : State) (was : IsSta
 pub entities_stand : (t : Option Tables) (n : ℕ) (state : State) → IsState state → (x : Option Tables) (h : List Snapshot) → Matches (data_with t n state) x h → entities_held state ≡ entities_after h
 entities_stand t n state is x h m =
     below-same (λ f. entities_said (feed_of state f).last) (λ f. entities_said (now h f)) feed_limit (λ f l. ap entities_said (sym (last_at state is f) ∙ m.last_is f))
+
+-- so are the bytes of each last snapshot
+bytes_with : (f m : ℕ) (o : Option (List ℕ)) → option_map (λ s. s.bytes) (snapshot_with f m o) ≡ o
+bytes_with f m None = refl
+bytes_with f m (Some b) = refl
+
+pub bytes_stand : (t : Option Tables) (n : ℕ) (state : State) → IsState state → (x : Option Tables) (h : List Snapshot) → Matches (data_with t n state) x h → (f : ℕ) → (held_at state.index f).bytes ≡ option_map (λ s. s.bytes) (now h f)
+bytes_stand t n state is x h m f =
+    sym (bytes_with f (header_at state.headers f).moment (held_at state.index f).bytes) ∙ ap (λ (o : Option Snapshot). option_map (λ s. s.bytes) o) (sym (last_at state is f) ∙ m.last_is f)
 
 -- ---- nothing is held at first
 pub nothing_at : (index : List HeldEntities) (headers : List HeldHeader) (peaks : HeldPeaks) → ((f : ℕ) → held_at index f ≡ nothing) → headers ≡ [] → ((f : ℕ) (vehicle : List ℕ) → peak_of peaks f vehicle ≡ None) → (f : ℕ) →

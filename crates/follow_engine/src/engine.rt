@@ -1,10 +1,10 @@
 //! The engine.
-ghost use Rattle.std.specs.Prelude.{◌≡◌, ◌+◌, ◌-◌, ◌*◌, ◌^◌, ◌<◌, ◌≤◌, List, [], Option, length, IfOk, OnOk};
+ghost use Rattle.std.specs.Prelude.{◌≡◌, ◌+◌, ◌-◌, ◌*◌, ◌^◌, ◌<◌, ◌≤◌, List, [], Option, length, option_copied, option_map, IfOk, OnOk};
 ghost use Rattle.timetable.specs.Timetables.{Tables};
 ghost use Rattle.rule_table.specs.Rises.{Rising};
 ghost use Rattle.rule_history.specs.Answered.{tables_of};
 ghost use Rattle.rule_history.specs.Changed.{tested, with};
-ghost use Rattle.rule_history.specs.History.{Snapshot};
+ghost use Rattle.rule_history.specs.History.{Snapshot, now};
 ghost use Rattle.engine_laws.specs.Delta.{IsDelta};
 ghost use Rattle.rule_history.specs.Findings.{findings};
 ghost use Rattle.engine_laws.specs.Standings.{Matches, StandsFor, renewed};
@@ -187,6 +187,14 @@ impl Engine {
         ensures { result ≡ (engine_data self.now).applied }
     {
         self.applied
+    }
+
+    /// The last snapshot of a feed.
+    pub fn kept_of(&self, feed: u8) -> Option<&Kept>
+        ensures { (t : Option Tables) (h : List Snapshot) → Matches (engine_data self.now) t h → option_copied result ≡ option_map (λ s. s.bytes) (now h feed) }
+    {
+        self.feeds.stands();
+        self.feeds.held.index.kept_of(feed)
     }
 
     /// The findings in their order, each with the number of the snapshot since which its rule stands at its place. It takes no

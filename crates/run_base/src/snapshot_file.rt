@@ -68,10 +68,13 @@ fn decoded(alloc: Global, bytes: &[u8]) -> Result<Result<FeedMessage, Refusal>, 
 }
 
 /// The snapshot in the file of this name, kept as its bytes, or why it is refused. A file that isn't there is a refused snapshot.
+///
+/// Entities that stand with the same bytes in the snapshot that its feed had before, where it had one, aren't gone through again.
 pub fn read_kept<F: Files>(
     alloc: Global,
     files: &mut F,
     file: &str,
+    before: Option<&Kept>,
 ) -> Result<Result<Kept, Refusal>, Fault>
     ensures found { IfSome (contents_told (F.state files.old).told)
         (λ held. IfOk result (λ found. bytes_in (get held file.now) ≡ kept_bytes found)) }
@@ -83,7 +86,7 @@ pub fn read_kept<F: Files>(
 {
     match files.open_file(file) {
         Opening::Opened => {
-            let splitter = read_pieces(alloc, files)?;
+            let splitter = read_pieces(alloc, files, before)?;
             kept(splitter)
         }
         Opening::Absent => Ok(Err(refusal(0, Reason::NoFile))),
@@ -92,7 +95,11 @@ pub fn read_kept<F: Files>(
 }
 
 // The pieces of the open file, up to its end or to where they are more than a snapshot may be.
-fn read_pieces<F: Files>(alloc: Global, files: &mut F) -> Result<Splitter, Fault>
+fn read_pieces<F: Files>(
+    alloc: Global,
+    files: &mut F,
+    before: Option<&Kept>,
+) -> Result<Splitter, Fault>
     ensures pieces { IfSome (F.state files.old).told (λ store. IfOk result (TellsCame (left store))) }
     ensures contents { contents_told (F.state files.new).told ≡ contents_told (F.state files.old).told }
     ensures asked { (F.state files.new).asked ≡ (F.state files.old).asked }
@@ -109,7 +116,7 @@ fn read_pieces<F: Files>(alloc: Global, files: &mut F) -> Result<Splitter, Fault
         if count == 0 {
             return Ok(splitter);
         }
-        splitter = splitter.feed(&piece[..count])?;
+        splitter = splitter.feed_beside(&piece[..count], before)?;
     }
     Ok(splitter)
 }

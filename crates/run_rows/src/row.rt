@@ -117,6 +117,7 @@ pub fn take_row<F: Files, D: Ledger, T: Ledger>(
     ensures read { IsErrOf result Fault.Read → Rose (F.state files.old).faults (F.state files.new).faults }
     ensures not_write { IsErrOf result Fault.Write → ⊥ }
 {
-    let found = read_kept(alloc, files, row.path.as_str())?;
+    let before = engine.kept_of(row.feed);
+    let found = read_kept(alloc, files, row.path.as_str(), before)?;
     Ok(take(alloc, telling, engine, number, row, found, decodes, tests)?)
 }

@@ -70,6 +70,6 @@ fn write_report<F: Files, S: Sink, D: Ledger, T: Ledger>(
     ensures most { IfSome (contents_told (F.state files.old).told) (λ held.
         RoseAtMost (snapshot_work (get held file.now)) (counters decodes.old tests.old) (counters decodes.new tests.new)) }
 {
-    let found = read_kept(alloc, files, file)?;
+    let found = read_kept(alloc, files, file, None)?;
     put_report(alloc, moment, timetable, found, out, decodes, tests)
 }

@@ -28,7 +28,7 @@ go_through-requires c =
     let bytes = w.bytes.items in
     let piece = c.args.piece.now in
     let r = c.requires.reached in
-    let same = c.deref.ensures.value ∙ c.in_ok-extend_from_slice.ensures.items in
+    let same = c.deref.ensures.value ∙ c.in_ok-append.ensures in
     let laid : IsLayoutOf (bytes ++ piece) (placed_fields (take w.reached.next (bytes ++ piece))) w.reached.layout =
     subst (λ (b : List ℕ). IsLayoutOf (bytes ++ piece) (placed_fields b) w.reached.layout) (sym (take-append-le w.reached.next bytes piece r.walked_to.within)) (layout_grows bytes piece (placed_fields (take w.reached.next bytes)) w.reached.layout r.layout) in
     record {
@@ -41,8 +41,8 @@ pub returns-in-Stopped-clause-came : goal.returns-in-Stopped-clause-came
 returns-in-Stopped-clause-came c =
     let w = c.args.walk in
     let piece = c.args.piece.now in
-    let same = c.in_ok-extend_from_slice.ensures.items in
-    let walk : Walk = record { bytes = c.extend_from_slice.new.self; reached = c.in-Stopped.reached } in
+    let same = c.in_ok-append.ensures in
+    let walk : Walk = record { bytes = c.append.new.bytes; reached = c.in-Stopped.reached } in
     let through : IsReached walk.bytes.items walk.reached = subst (λ (b : List ℕ). IsReached b walk.reached) c.deref.ensures.value (rw c.in-Stopped.is at c.in_ok-reached.ensures) in
     let small : length (w.bytes.items ++ piece) ≤ snapshot_limit = omega (arith, c.if-count-gt-SNAPSHOT_LIMIT.false, c.saturating_add-count.ensures, c.len.ensures, w.bytes.ok.0, length-append w.bytes.items piece) in
     let ok = bytes_append w.bytes.items piece c.requires.bytes_are (λ i. omega (arith, c.type_inv.piece i)) in
@@ -58,7 +58,7 @@ returns-in-Refused-clause-came c =
     let w = c.args.walk in
     let r = c.in-Refused.refusal in
     let piece = c.args.piece.now in
-    let through : GoesWrong (w.bytes.items ++ piece) r = subst (λ (b : List ℕ). GoesWrong b r) (c.deref.ensures.value ∙ c.in_ok-extend_from_slice.ensures.items) (rw c.in-Refused.is at c.in_ok-reached.ensures) in
+    let through : GoesWrong (w.bytes.items ++ piece) r = subst (λ (b : List ℕ). GoesWrong b r) (c.deref.ensures.value ∙ c.in_ok-append.ensures) (rw c.in-Refused.is at c.in_ok-reached.ensures) in
     let len = length-append w.bytes.items piece in
     let small : length (w.bytes.items ++ piece) ≤ snapshot_limit = omega (arith, c.if-count-gt-SNAPSHOT_LIMIT.false, c.saturating_add-count.ensures, c.len.ensures, w.bytes.ok.0, len) in
     let count : c.saturating_add-count.result ≡ length (w.bytes.items ++ piece) = omega (arith, c.if-count-gt-SNAPSHOT_LIMIT.false, c.saturating_add-count.ensures, c.len.ensures, w.bytes.ok.0, len) in

@@ -10,7 +10,7 @@ returns-in-Err c =
     let next = c.loop-next.next in
     let field = placed_field c.in-Plain.field in
     let so_far = rw c.in-Plain.is at c.in_ok-field.ensures in
-    let says : in_payload part_fault field ≡ Some c.in-Err.refusal = rw c.in-Err.is at c.check_part.ensures in
+    let says : in_payload part_fault field ≡ Some c.in-Err.refusal = rw c.in-Err.is at c.in_ok-refusal-in-Plain.ensures in
     let n = stands_next bytes next field (λ i. omega (arith, c.type_inv.bytes i)) c.loop-next.invariant.walked.within so_far.0 in
     inside_refused bytes next field c.in-Err.refusal (λ i. omega (arith, c.type_inv.bytes i)) c.loop-next.invariant.walked n says
 
@@ -28,7 +28,7 @@ loop-next-preserved-in-Plain c =
     let w = c.loop-next.invariant.walked in
     let n = stands_next bytes next field (λ i. omega (arith, c.type_inv.bytes i)) w.within so_far.0 in
     record {
-      walked = walked_more bytes next field w n (whole_part field (has_bytes bytes next field (λ i. omega (arith, c.type_inv.bytes i)) n) c.in_default.ensures);
+      walked = walked_more bytes next field w n (whole_part field (has_bytes bytes next field (λ i. omega (arith, c.type_inv.bytes i)) n) (rw c.in_default.is at c.in_ok-refusal-in-Plain.ensures));
       laid = field_laid bytes next c.in-Plain.field c.loop-next.layout c.in_ok-layout-in-Plain.layout w n so_far.1 c.loop-next.invariant.laid c.in_ok-layout-in-Plain.ensures;
       front = tt;
     }

@@ -4,8 +4,8 @@ use Rattle.feed_stream.specs.Sofar.{Sofar}
 use Rattle.feed_stream.specs.Inside.{IsFound, IsWalk, sofar}
 use Rattle.feed_stream.specs.Came.{Came}
 use Rattle.feed_stream.proofs.Feeding.{came_more, came_is}
-use Rattle.feed_stream.proofs.splitter.Splitter.feed.Goals as goal
-use Rattle.feed_stream.proofs.splitter.Splitter.feed.Goals.{in-Refused, in-Walked+in_ok-found-in-Walked}
+use Rattle.feed_stream.proofs.splitter.Splitter.feed_beside.Goals as goal
+use Rattle.feed_stream.proofs.splitter.Splitter.feed_beside.Goals.{in-Refused, in-Walked+in_ok-found-in-Walked}
 
 pub returns-clause-came : goal.returns-clause-came
 returns-clause-came c b came = elim c.match-found.branch [
