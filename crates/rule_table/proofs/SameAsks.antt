@@ -140,6 +140,7 @@ ask_same (ask.Peak f a) = and_from _ _ (number_same f) (text_same a)
 
 -- what compares the parts of asks tells whether the asks are equal
 pub is_by_parts : (same : Bool) (a b : Ask) → same ≡ same_parts (parts_of a) (parts_of b) → IsTrue same ↔ (a ≡ b)
-is_by_parts same a b e =
-    ((λ h. ask_is a b (parts_same a b ∙ sym e ∙ h)),
-     (λ h. e ∙ sym (parts_same a b) ∙ ap (same_ask a) (sym h) ∙ ask_same a))
+is_by_parts same a b e = (
+  (λ h. ask_is a b (parts_same a b ∙ sym e ∙ h)),
+  (λ h. e ∙ sym (parts_same a b) ∙ ap (same_ask a) (sym h) ∙ ask_same a),
+)
