@@ -130,11 +130,12 @@ impl Search {
         let Some(id) = last_payload(payload, ID) else {
             return Ok(false);
         };
-        if has_id(before, place, id) {
-            self.found_at(place);
-            return Ok(false);
-        }
         if self.places.is_empty() {
+            // Only till there is a table, so that no id of the snapshot before is read again and again.
+            if has_id(before, place, id) {
+                self.found_at(place);
+                return Ok(false);
+            }
             self.places = places_of(alloc, before)?;
         }
         Ok(self.finds(before, id, payload))
