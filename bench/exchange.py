@@ -61,13 +61,14 @@ def ordinary(folder, trips=3000):
 
 
 def changed(folder, old, new):
-    """A copy of a timetable in which the trip that the first entity names arrives elsewhere at another time."""
+    """A copy of a timetable in which the trip that the first entity names arrives elsewhere at another time.
+
+    It is changed in its place: the system tells as the size of a program at least that of the script that starts it, so no whole file is held here."""
     shutil.copytree(old, new)
-    path = os.path.join(new, "stop_times.txt")
-    with open(path, "rb") as file:
-        data = file.read()
-    at = data.index(b"T0000000,05:01:30,05:01:30,")
-    write(path, data[:at] + b"T0000000,05:01:31,05:01:31," + data[at + 27:])
+    with open(os.path.join(new, "stop_times.txt"), "r+b") as file:
+        at = file.read(1 << 20).index(b"T0000000,05:01:30,05:01:30,")
+        file.seek(at)
+        file.write(b"T0000000,05:01:31,05:01:31,")
 
 
 def rows(folder, what, first, others):
