@@ -37,13 +37,14 @@ pub fn say_work(alloc: Global, out: &[u8], answer: &mut Vec<u8>) -> Result<(), A
     let mut tests: u64 = 0;
     for line in text.lines() {
         let tested = member(line, "\"tested\":");
+        let judged = tested.saturating_add(member(line, "\"retested\":"));
         let paired = member(line, "\"paired\":").saturating_mul(3);
         let bounded = member(line, "\"bounded\":").saturating_mul(2);
         let peaked = member(line, "\"peaked\":");
         decodes = decodes.saturating_add(tested);
         tests = tests
             .saturating_add(snapshots(line).saturating_mul(10))
-            .saturating_add(tested.saturating_mul(40))
+            .saturating_add(judged.saturating_mul(40))
             .saturating_add(paired)
             .saturating_add(bounded)
             .saturating_add(peaked);
