@@ -10,6 +10,7 @@ ghost use Rattle.rule_history.specs.Findings.{findings};
 ghost use Rattle.engine_laws.specs.Standings.{Matches, StandsFor, renewed};
 ghost use Rattle.exchanged_timetables.specs.cached_laws.Cached.{AreCached};
 ghost use Rattle.exchanged_timetables.specs.cached_laws.State.{feed_of};
+ghost use Rattle.exchanged_timetables.specs.entity_index.Held.{held_at};
 ghost use Rattle.exchanged_timetables.specs.held_feeds.Entities.{entities_after, entities_held};
 ghost use Rattle.follow_engine.specs.Deltas.{all_closed, all_opened, delta_value};
 ghost use Rattle.follow_engine.specs.Followed.{tests_of};
@@ -29,6 +30,13 @@ use rule_table::EntityKey;
 use std::alloc::{AllocError, Global};
 use std::sync::ledger::Ledger;
 use timetable::Timetable;
+
+// The last snapshot of a feed.
+fn kept_in(feeds: &Feeds, feed: u8) -> Option<&Kept>
+    ensures { option_copied result ≡ (held_at feeds.now.index feed).bytes }
+{
+    feeds.held.index.kept_of(feed)
+}
 
 /// What follows up to 16 feeds: a timetable, how many snapshots were taken, the last one of each feed with its entities decoded, the
 /// greatest timestamp of each vehicle before it, and the findings of each entity and header, each with the number of the snapshot since which its rule
@@ -194,7 +202,7 @@ impl Engine {
         ensures { (t : Option Tables) (h : List Snapshot) → Matches (engine_data self.now) t h → option_copied result ≡ option_map (λ s. s.bytes) (now h feed) }
     {
         self.feeds.stands();
-        self.feeds.held.index.kept_of(feed)
+        kept_in(&self.feeds, feed)
     }
 
     /// The findings in their order, each with the number of the snapshot since which its rule stands at its place. It takes no
