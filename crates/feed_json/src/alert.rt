@@ -3,9 +3,10 @@
 use crate::json_fault::JsonFault;
 use crate::message::{Form, optional_message, repeated};
 use crate::reading::{optional_enum, optional_i32, optional_text, optional_u64};
+use crate::three::three_from;
 use crate::unknown::{UnknownItems, put_unknown, unknown_fields};
 use crate::writing::{put_i32, put_optional, put_optional_text, put_repeated, put_u32, put_u64};
-use feed_values::{Alert, EntitySelector, Slots, TimeRange, Unknown};
+use feed_values::{Alert, EntitySelector, Slots, TimeRange, TranslatedString, Unknown};
 use serde_json::{Map, Value};
 use std::alloc::{AllocError, Global};
 
@@ -30,15 +31,26 @@ impl Form for Alert {
     }
 
     fn read(alloc: Global, value: &Value) -> Result<Alert, JsonFault> {
+        let active_period = repeated(alloc, value, "active_period")?;
+        let informed_entity = repeated(alloc, value, "informed_entity")?;
+        let cause = optional_enum(alloc, value, "cause", 1, 12)?;
+        let effect = optional_enum(alloc, value, "effect", 1, 9)?;
+        let texts = three_from::<TranslatedString, TranslatedString, TranslatedString, Alert>(
+            alloc,
+            value,
+            "url",
+            "header_text",
+            "description_text",
+        )?;
         Ok(Alert {
-            active_period: repeated(alloc, value, "active_period")?,
-            informed_entity: repeated(alloc, value, "informed_entity")?,
-            cause: optional_enum(alloc, value, "cause", 1, 12)?,
-            effect: optional_enum(alloc, value, "effect", 1, 9)?,
-            url: optional_message(alloc, value, "url")?,
-            header_text: optional_message(alloc, value, "header_text")?,
-            description_text: optional_message(alloc, value, "description_text")?,
-            unknown: unknown_fields::<Alert>(alloc, value)?,
+            active_period,
+            informed_entity,
+            cause,
+            effect,
+            url: texts.first,
+            header_text: texts.second,
+            description_text: texts.third,
+            unknown: texts.unknown,
         })
     }
 

@@ -17,7 +17,7 @@ use crate::message::Form;
 use crate::reading::{optional_enum_or, optional_text, optional_u32};
 use crate::unknown::{UnknownItems, items_at, put_unknown, unknown_fields};
 use crate::writing::{put_optional_text, put_u32};
-use feed_values::{Items, Slots, TripDescriptor, Unknown, UnknownValue, VehicleDescriptor};
+use feed_values::{Blank, Items, Slots, TripDescriptor, Unknown, UnknownValue, VehicleDescriptor};
 use serde_json::{Map, Value};
 use std::alloc::{AllocError, Global};
 use std::mem;
@@ -35,21 +35,27 @@ fn is_duplicated(value: &UnknownValue) -> bool
     }
 }
 
-/// The trip as its keys say, with all items of `unknown`.
-fn trip_slots(alloc: Global, value: &Value) -> Result<TripDescriptor, JsonFault>
-    ensures read { Reads trip_descriptor_value (slots_of trip_descriptor trip_descriptor (view value.now)) result }
-    ensures holds { IfOk result (λ message. Holds trip_descriptor trip_descriptor (with_unknown trip_descriptor [] (trip_descriptor_value message))) }
-    ensures items { IfOk result (λ message. AllByRecursion (IsItem trip_descriptor) (map unknown_field message.unknown)) }
+/// Reads each slot to where it stands, with all items of `unknown`, so that nothing is owned where one has a fault.
+fn fill(alloc: Global, value: &Value, message: &mut TripDescriptor) -> Result<(), JsonFault>
+    ensures read { Reads (λ _. trip_descriptor_value message.new) (slots_of trip_descriptor trip_descriptor (view value.now)) result }
+    ensures holds { IfOk result (λ _. Holds trip_descriptor trip_descriptor (with_unknown trip_descriptor [] (trip_descriptor_value message.new))) }
+    ensures items { IfOk result (λ _. AllByRecursion (IsItem trip_descriptor) (map unknown_field message.new.unknown)) }
 {
-    Ok(TripDescriptor {
-        trip_id: optional_text(alloc, value, "trip_id")?,
-        start_time: optional_text(alloc, value, "start_time")?,
-        start_date: optional_text(alloc, value, "start_date")?,
-        schedule_relationship: optional_enum_or(alloc, value, "schedule_relationship", 0, 3, 6)?,
-        route_id: optional_text(alloc, value, "route_id")?,
-        direction_id: optional_u32(alloc, value, "direction_id")?,
-        unknown: items_at::<TripDescriptor>(alloc, value)?,
-    })
+    message.trip_id = optional_text(alloc, value, "trip_id")?;
+    message.start_time = optional_text(alloc, value, "start_time")?;
+    message.start_date = optional_text(alloc, value, "start_date")?;
+    message.schedule_relationship = optional_enum_or(
+        alloc,
+        value,
+        "schedule_relationship",
+        0,
+        3,
+        6,
+    )?;
+    message.route_id = optional_text(alloc, value, "route_id")?;
+    message.direction_id = optional_u32(alloc, value, "direction_id")?;
+    message.unknown = items_at::<TripDescriptor>(alloc, value)?;
+    Ok(())
 }
 
 impl Later for TripDescriptor {
@@ -93,7 +99,8 @@ impl Form for TripDescriptor {
     }
 
     fn read(alloc: Global, value: &Value) -> Result<TripDescriptor, JsonFault> {
-        let trip = trip_slots(alloc, value)?;
+        let mut trip = TripDescriptor::blank(alloc);
+        fill(alloc, value, &mut trip)?;
         Ok(settle(alloc, trip)?)
     }
 

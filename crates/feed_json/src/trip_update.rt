@@ -132,21 +132,33 @@ impl Form for TripUpdate {
     }
 }
 
-/// The update of a stop as its keys say, with all items of `unknown`.
-fn stop_slots(alloc: Global, value: &Value) -> Result<StopTimeUpdate, JsonFault>
-    ensures read { Reads stop_time_update_value (slots_of stop_time_update stop_time_update (view value.now)) result }
-    ensures holds { IfOk result (λ message. Holds stop_time_update stop_time_update (with_unknown stop_time_update [] (stop_time_update_value message))) }
-    ensures items { IfOk result (λ message. AllByRecursion (IsItem stop_time_update) (map unknown_field message.unknown)) }
+/// An update of a stop of which nothing was read.
+fn empty_stop(alloc: Global) -> StopTimeUpdate {
+    StopTimeUpdate {
+        stop_sequence: None,
+        arrival: None,
+        departure: None,
+        stop_id: None,
+        schedule_relationship: None,
+        stop_time_properties: None,
+        unknown: Items::new(alloc),
+    }
+}
+
+/// Reads each slot of an update of a stop, as `fill` does.
+fn fill_stop(alloc: Global, value: &Value, message: &mut StopTimeUpdate) -> Result<(), JsonFault>
+    ensures read { Reads (λ _. stop_time_update_value message.new) (slots_of stop_time_update stop_time_update (view value.now)) result }
+    ensures holds { IfOk result (λ _. Holds stop_time_update stop_time_update (with_unknown stop_time_update [] (stop_time_update_value message.new))) }
+    ensures items { IfOk result (λ _. AllByRecursion (IsItem stop_time_update) (map unknown_field message.new.unknown)) }
 {
-    Ok(StopTimeUpdate {
-        stop_sequence: optional_u32(alloc, value, "stop_sequence")?,
-        arrival: optional_message(alloc, value, "arrival")?,
-        departure: optional_message(alloc, value, "departure")?,
-        stop_id: optional_text(alloc, value, "stop_id")?,
-        schedule_relationship: optional_enum(alloc, value, "schedule_relationship", 0, 2)?,
-        stop_time_properties: optional_message(alloc, value, "stop_time_properties")?,
-        unknown: items_at::<StopTimeUpdate>(alloc, value)?,
-    })
+    message.stop_sequence = optional_u32(alloc, value, "stop_sequence")?;
+    message.arrival = optional_message(alloc, value, "arrival")?;
+    message.departure = optional_message(alloc, value, "departure")?;
+    message.stop_id = optional_text(alloc, value, "stop_id")?;
+    message.schedule_relationship = optional_enum(alloc, value, "schedule_relationship", 0, 2)?;
+    message.stop_time_properties = optional_message(alloc, value, "stop_time_properties")?;
+    message.unknown = items_at::<StopTimeUpdate>(alloc, value)?;
+    Ok(())
 }
 
 impl Later for StopTimeUpdate {
@@ -203,7 +215,8 @@ impl Form for StopTimeUpdate {
     }
 
     fn read(alloc: Global, value: &Value) -> Result<StopTimeUpdate, JsonFault> {
-        let update = stop_slots(alloc, value)?;
+        let mut update = empty_stop(alloc);
+        fill_stop(alloc, value, &mut update)?;
         Ok(settle(alloc, update)?)
     }
 
