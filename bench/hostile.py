@@ -217,6 +217,15 @@ def put_others(shapes):
         print(f"| {name} | {os.path.getsize(path) / (1 << 20):.0f} | {words[0]} | {cells_of(Cost([*words, path]))}", flush=True)
 
 
+def put_beside(shapes):
+    """A snapshot of one large entity, and the next one of its feed, of many small ones that don't stand there."""
+    large = shapes.put(within_entity(1_000_000), "large")
+    small = shapes.put(HEADER + b"".join(payload(2, payload(1, b"e%d" % i)) for i in range(100_000)), "small")
+    listed = shapes.put(f"0,1700000000,{large}\n0,1700000030,{small}\n".encode(), "listed")
+    size = (os.path.getsize(large) + os.path.getsize(small)) / (1 << 20)
+    print(f"| a million unknown fields of an entity, then 100,000 others | {size:.0f} | follow | {cells_of(Cost(['follow', '--list', listed]))}")
+
+
 def main():
     sizes = [float(mib) for mib in sys.argv[2:]] or [1, 4]
     with tempfile.TemporaryDirectory() as folder:
@@ -228,6 +237,7 @@ def main():
         print()
         put_large(shapes)
         put_others(shapes)
+        put_beside(shapes)
         print("\nfaster than n log n: " + ("; ".join(shapes.grown) or "nothing"))
 
 
