@@ -1,5 +1,5 @@
 -- What is of another phase is let go.
-use Rattle.std.specs.Prelude.{◌≡◌, Bool, true, false, cond, [], ◌∷◌, filter, Option, Some, None, refl}
+use Rattle.std.specs.Prelude.{◌≡◌, Bool, true, false, cond, [], ◌∷◌, filter, Some, None, refl}
 use mathlib.Core.Bool.{beq}
 use Rattle.std.proofs.Common.{◌∙◌, ap, sym}
 use Rattle.rule_table.specs.declared.key.EntityKey.{EntityKey}

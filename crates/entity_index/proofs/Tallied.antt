@@ -2,6 +2,7 @@
 use Rattle.std.specs.Prelude.{◌≡◌, ℕ, ◌+◌, ◌<◌, ◌||◌, Bool, true, false, not, cond, List, [], ◌∷◌, ◌++◌, take, length, get_or, Option, Some, None, IfSome, option_map, bytes_eq, refl}
 use mathlib.Core.Bool.{beq}
 use Rattle.std.proofs.Common.{◌∙◌, ap, sym, subst, arith}
+use Rattle.std.proofs.lemmas.Bool.{false≢true}
 use Rattle.std.proofs.lemmas.Slice.Eq.{bytes_eq-Decides}
 use Rattle.rule_table.specs.declared.key.EntityKey.{EntityKey}
 use Rattle.rule_table.specs.Order.{same_key}
@@ -9,7 +10,7 @@ use Rattle.rule_history.specs.History.{id_of, count_id}
 use Rattle.engine_laws.proofs.Spots.{is_false, key_is, key_self}
 use Rattle.entity_index.specs.declared.incoming.Incoming.{Incoming}
 use Rattle.entity_index.specs.Held.{at_key}
-use Rattle.entity_index.specs.Put.{AreUnseated, Under, come, put_all, put_one, seat_one, seated}
+use Rattle.entity_index.specs.Put.{AreUnseated, Under, come, put_all, put_one, seat_first, seat_one, seated}
 use Rattle.entity_index.specs.Seats.{AreSeated, HeldSeat, IsSeat, Seats}
 use Rattle.entity_index.specs.Tally.{IsTally, came_then, first_key, met_at, phase_at}
 use Rattle.entity_index.proofs.AtKey.{each_at}
@@ -111,6 +112,59 @@ module _ (f : ℕ) (ps : List (List ℕ)) (i : ℕ) (l : i < length ps) where
         go None false e q = refl
         go (Some s) true e q = ap (λ b. Some b) (itself phase)
         go (Some s) false e q = ap (λ b. Some b) (seen (beq s.phase phase) false e refl q)
+
+-- an entity is seated under its key, after what is under that of the first one of its id was seated if it wasn't yet
+module _ (phase : Bool) (first : EntityKey) (place n : ℕ) (zero : first.occurrence ≡ 0) where
+  abbrev own : EntityKey
+  own = record first { occurrence = n }
+
+  is_first : n ≡ 0 → (k : EntityKey) → same_key own k ≡ same_key first k
+  is_first z k = ap (λ m. same_key (let q : EntityKey = record first { occurrence = m } in q) k) (z ∙ sym zero)
+
+  abbrev once : HeldSeat → HeldSeat
+  once s = cond (beq s.phase phase) s (seated place phase s)
+
+  seated_once : (o : Option HeldSeat) → option_map (seated place phase) (option_map once o) ≡ option_map (seated place phase) o
+  seated_once None = refl
+  seated_once (Some s) = either (beq s.phase phase)
+    where
+      either : (b : Bool) → Some (seated place phase (cond b s (seated place phase s))) ≡ Some (seated place phase s)
+      either true = refl
+      either false = refl
+
+  pub first_seated : (under : Under) → Some false ≡ phase_at phase (under first) → n ≡ 0 → (k : EntityKey) → seat_first phase (first, place) under k ≡ seat_one phase (record first { occurrence = n }, place) under k
+  first_seated under at z k = either (same_key first k) refl ∙ sym (ap (λ b. cond b (option_map (seated place phase) (under k)) (under k)) (is_first z k))
+    where
+      inside : (b : Bool) → Some false ≡ Some b → b ≡ false
+      inside b e = cc
+
+      apart : (o : Option HeldSeat) → Some false ≡ phase_at phase o → option_map once o ≡ option_map (seated place phase) o
+      apart None e = refl
+      apart (Some s) e = ap (λ b. Some (cond b s (seated place phase s))) (inside (beq s.phase phase) e)
+
+      either : (b : Bool) → same_key first k ≡ b → cond b (option_map once (under k)) (under k) ≡ cond b (option_map (seated place phase) (under k)) (under k)
+      either false e = refl
+      either true e = apart (under k) (subst (λ q. Some false ≡ phase_at phase (under q)) (key_is first k e) at)
+
+  pub seated_after : (under next : Under) (m : ℕ) → IsTally (phase_at phase (under first)) n m → ((k : EntityKey) → next k ≡ seat_first phase (first, place) under k) →
+      (k : EntityKey) → seat_one phase (record first { occurrence = n }, place) next k ≡ seat_one phase (record first { occurrence = n }, place) under k
+  seated_after under next m t is k =
+      ap (λ o. cond (same_key own k) (option_map (seated place phase) o) o) (is k) ∙ either (same_key own k) (same_key first k) refl refl
+    where
+      same : (s : HeldSeat) (b : Bool) → IsTally (Some b) n m → (n ≡ 0 → ⊥) → cond b s (seated place phase s) ≡ s
+      same s true u never = refl
+      same s false u never = absurd (never u.0)
+
+      stays : (o : Option HeldSeat) → IsTally (phase_at phase o) n m → (n ≡ 0 → ⊥) → option_map once o ≡ o
+      stays None u never = refl
+      stays (Some s) u never = ap (λ x. Some x) (same s (beq s.phase phase) u never)
+
+      either : (a b : Bool) → same_key own k ≡ a → same_key first k ≡ b →
+          cond a (option_map (seated place phase) (cond b (option_map once (under k)) (under k))) (cond b (option_map once (under k)) (under k)) ≡ cond a (option_map (seated place phase) (under k)) (under k)
+      either true true d e = seated_once (under k)
+      either true false d e = refl
+      either false false d e = refl
+      either false true d e = stays (under k) (subst (λ q. IsTally (phase_at phase (under q)) n m) (key_is first k e) t) (λ z. false≢true (sym d ∙ is_first z k ∙ e))
 
 -- none is seated before
 pub put_unseated : (phase other : Bool) → beq other phase ≡ false → (came : List Incoming) (under : Under) → AreUnseated phase under → AreUnseated phase (put_all other came under)

@@ -204,6 +204,13 @@ fn was_met(met: &[bool], place: usize) -> bool
     met.get(place).copied().unwrap_or(false)
 }
 
+fn push_copy(alloc: Global, keys: &mut Items<EntityKey>, key: &EntityKey) -> Result<(), AllocError>
+    ensures { OnOk result (keys.new ≡ keys.old ++ key.now ∷ []) }
+{
+    keys.push(key.clone(alloc)?)?;
+    Ok(())
+}
+
 /// The keys of those that are held and weren't met, in their order.
 fn not_met(alloc: Global, room: &Room, met: &[bool]) -> Result<Items<EntityKey>, AllocError>
     ensures { IfOk result (λ gone. gone ≡ map (λ e. e.0) (filter (λ e. not (get_or met.now e.1.place false)) room.now.seats)) }
@@ -211,7 +218,7 @@ fn not_met(alloc: Global, room: &Room, met: &[bool]) -> Result<Items<EntityKey>,
     let mut gone = Items::new(alloc);
     for (key, seat) in &room.entries {
         if !was_met(met, seat.place()) {
-            gone.push(key.clone(alloc)?)?;
+            push_copy(alloc, &mut gone, key)?;
         }
     }
     Ok(gone)

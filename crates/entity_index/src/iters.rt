@@ -1,7 +1,7 @@
 //! What is held of a feed, handed out in the order of keys.
 ghost use Rattle.std.specs.Prelude.{◌≡◌};
 ghost use Rattle.std.specs.Iterator.{YieldsFirstBy, YieldsFirstRef, item_count};
-ghost use Rattle.entity_index.specs.Handed.{keyed_parts, keyed_value};
+ghost use Rattle.entity_index.specs.Handed.{keyed_parts, keyed_seat, keyed_value, listed};
 
 use crate::parts::Parts;
 use crate::room::Seat;
@@ -41,6 +41,18 @@ impl<'a> Iterator for KeysIter<'a> {
     }
 }
 
+/// Hands out one of those that are left of a feed, if it is held.
+fn next_entry<'a>(
+    entries: &mut Option<Iter<'a, EntityKey, Seat>>,
+) -> Option<(&'a EntityKey, &'a Seat)>
+    ensures { YieldsFirstBy keyed_seat (λ left. listed left) entries.old result entries.new }
+{
+    match entries {
+        None => None,
+        Some(entries) => entries.next(),
+    }
+}
+
 /// The keys that are left to hand out, in their order, each with its four lists. Contracts see it as the list of them. It takes no memory.
 #[derive(Drop)]
 pub struct PartsIter<'a> {
@@ -65,13 +77,8 @@ impl<'a> Iterator for PartsIter<'a> {
     ghost remaining = { item_count (λ left. left) };
 
     fn next(&mut self) -> Option<(&'a EntityKey, &'a Parts)> {
-        match &mut self.entries {
-            None => None,
-            Some(entries) => {
-                let (key, seat) = entries.next()?;
-                Some((key, seat.parts()))
-            }
-        }
+        let (key, seat) = next_entry(&mut self.entries)?;
+        Some((key, seat.parts()))
     }
 }
 
@@ -99,12 +106,7 @@ impl<'a> Iterator for EntitiesIter<'a> {
     ghost remaining = { item_count (λ left. left) };
 
     fn next(&mut self) -> Option<(&'a EntityKey, &'a Entity)> {
-        match &mut self.entries {
-            None => None,
-            Some(entries) => {
-                let (key, seat) = entries.next()?;
-                Some((key, seat.entity()))
-            }
-        }
+        let (key, seat) = next_entry(&mut self.entries)?;
+        Some((key, seat.entity()))
     }
 }

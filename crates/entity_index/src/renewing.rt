@@ -1,9 +1,11 @@
 //! A snapshot is taken in.
-ghost use Rattle.std.specs.Prelude.{◌≡◌, ◌<◌, ◌+◌, ℕ, false, bytes_eq, Bool, List, [], Some, None, IfOk, OnOk, map, not, unwrap_or, if◌then◌else◌};
+ghost use Rattle.std.specs.Prelude.{◌≡◌, ◌<◌, ◌+◌, ℕ, true, false, bytes_eq, Bool, List, [], Some, None, IfOk, OnOk, map, not, unwrap_or, if◌then◌else◌};
+ghost use Rattle.std.specs.Cmp.Lexicographic.{pointwise};
 ghost use Rattle.feed_values.specs.Snapshot.{entity_payloads};
 ghost use Rattle.rule_table.specs.declared.key.EntityKey.{EntityKey as Key};
 ghost use Rattle.rule_table.specs.Order.{same_key};
 ghost use Rattle.rule_table.specs.Counts.{count_in};
+ghost use Rattle.rule_history.specs.History.{id_of};
 ghost use Rattle.entity_index.specs.Held.{nothing, at_key, parts_at};
 ghost use Rattle.entity_index.specs.Lists.{no_lists};
 ghost use Rattle.entity_index.specs.Changes.{AreIncoming, changed_under, replaced, set_at};
@@ -57,10 +59,7 @@ fn put_one(
             seat.renew(entity, parts);
             Ok(())
         }
-        None => {
-            put_under(entries, key, Seat::new(phase, entity, parts))?;
-            Ok(())
-        }
+        None => put_under(entries, key, Seat::new(phase, entity, parts)),
     }
 }
 
@@ -192,6 +191,85 @@ pub(crate) fn first_room(
     })
 }
 
+/// Puts in what came in a phase, seats each entity of a snapshot at its place in the other one, lets the rest go, and tells how many with the same id
+/// stand before each.
+fn seat_anew(
+    alloc: Global,
+    entries: &mut BTreeMap<EntityKey, Seat>,
+    feed: u8,
+    kept: &Kept,
+    phase: bool,
+    incoming: Items<Incoming>,
+) -> Result<Vec<u32>, AllocError>
+    requires { AreUnseated (not phase) (λ key. at_key key entries.old.entries) }
+    ensures seated { OnOk result ((key : Key) → at_key key entries.new.entries ≡ staying (not phase) (seat_all (not phase) (placed_after feed [] 0 (entity_payloads kept.now)) (put_all phase incoming (λ k. at_key k entries.old.entries)) key)) }
+    ensures occurrences { IfOk result (λ counts. counts.items ≡ occurrences_after [] (entity_payloads kept.now)) }
+{
+    put_all(alloc, entries, phase, incoming)?;
+    let occurrences = seat_all(alloc, entries, feed, kept, !phase)?;
+    let_go(entries, !phase);
+    Ok(occurrences)
+}
+
+/// The next Room where the ids are the same in the same order.
+fn next_in_order(
+    alloc: Global,
+    room: Room,
+    kept: Kept,
+    incoming: Items<Incoming>,
+) -> Result<Room, AllocError>
+    requires incoming { AreIncoming room.feed (Some room.bytes) kept incoming }
+    requires ids { pointwise bytes_eq (map id_of (entity_payloads room.bytes)) (map id_of (entity_payloads kept)) ≡ true }
+    ensures feed { IfOk result (λ next. next.feed ≡ room.feed) }
+    ensures held { IfOk result (λ next. in_room (Some next) ≡ replaced room.feed kept incoming (in_room (Some room))) }
+{
+    let Room {
+        feed,
+        kept: _,
+        occurrences,
+        phase,
+        mut entries,
+    } = room;
+    put_all(alloc, &mut entries, phase, incoming)?;
+    let _count = entries.len();
+    Ok(Room {
+        feed,
+        kept,
+        occurrences,
+        phase,
+        entries,
+    })
+}
+
+/// The next Room whatever the ids are.
+fn next_anew(
+    alloc: Global,
+    room: Room,
+    kept: Kept,
+    incoming: Items<Incoming>,
+) -> Result<Room, AllocError>
+    requires { AreIncoming room.feed (Some room.bytes) kept incoming }
+    ensures feed { IfOk result (λ next. next.feed ≡ room.feed) }
+    ensures held { IfOk result (λ next. in_room (Some next) ≡ replaced room.feed kept incoming (in_room (Some room))) }
+{
+    let Room {
+        feed,
+        kept: _,
+        occurrences: _,
+        phase,
+        mut entries,
+    } = room;
+    let occurrences = seat_anew(alloc, &mut entries, feed, &kept, phase, incoming)?;
+    let _count = entries.len();
+    Ok(Room {
+        feed,
+        kept,
+        occurrences,
+        phase: !phase,
+        entries,
+    })
+}
+
 /// What is held of a feed once one more snapshot was taken in. Entities that stay are neither moved nor copied; where the ids are the same in the
 /// same order, those that didn't come in aren't looked at.
 pub(crate) fn next_room(
@@ -204,34 +282,11 @@ pub(crate) fn next_room(
     ensures feed { IfOk result (λ next. next.feed ≡ room.feed) }
     ensures held { IfOk result (λ next. in_room (Some next) ≡ replaced room.feed kept incoming (in_room (Some room))) }
 {
-    let Room {
-        feed,
-        kept: old,
-        occurrences,
-        phase,
-        mut entries,
-    } = room;
-    put_all(alloc, &mut entries, phase, incoming)?;
-    if have_same_ids(&old, &kept) {
-        let _count = entries.len();
-        return Ok(Room {
-            feed,
-            kept,
-            occurrences,
-            phase,
-            entries,
-        });
+    if have_same_ids(&room.kept, &kept) {
+        next_in_order(alloc, room, kept, incoming)
+    } else {
+        next_anew(alloc, room, kept, incoming)
     }
-    let occurrences = seat_all(alloc, &mut entries, feed, &kept, !phase)?;
-    let_go(&mut entries, !phase);
-    let _count = entries.len();
-    Ok(Room {
-        feed,
-        kept,
-        occurrences,
-        phase: !phase,
-        entries,
-    })
 }
 
 fn set_under(
