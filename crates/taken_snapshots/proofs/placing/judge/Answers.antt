@@ -1,4 +1,4 @@
-use Rattle.std.proofs.Common.{◌∙◌, ap, subst}
+use Rattle.std.proofs.Common.{◌∙◌, ap, sym, subst}
 use Rattle.std.specs.Prelude.{Option, ℤ}
 use Rattle.feed_values.specs.Snapshot.{timestamp_of}
 use Rattle.feed_values.specs.Views.{feed_header_value}
@@ -12,14 +12,15 @@ use Rattle.snapshot_steps.specs.cached_laws.PassableProofs.{can_pass}
 use Rattle.snapshot_steps.specs.cached_laws.ProvedProofs.{judged_is_change, judged_is_owed}
 use Rattle.snapshot_steps.specs.held_feeds.States.{state_of}
 use Rattle.snapshot_steps.specs.Taken.{snapshot_of}
+use Rattle.taken_snapshots.specs.Judged.{IsJudged}
 use Rattle.history_rules.specs.HeldPeaks.{peak_of}
 use Rattle.snapshot_steps.proofs.Replaced.{own_then}
 use Rattle.taken_snapshots.proofs.placing.judge.Goals as goal
 
-pub judge_parts-requires : goal.judge_parts-requires
-judge_parts-requires g c =
+pub judge_placed-requires : goal.judge_placed-requires
+judge_placed-requires g c =
     can_pass (tables_of c.args.judging.now.table.now) (state_of c.args.held) (snapshot_of c.args.taken) c.requires.state c.requires.taken c.requires.feed c.requires.cached
-    c.args.changed.now.touched.local c.args.changed.now.touched.paired c.args.changed.now.touched.bounded c.args.changed.now.touched.peaked c.requires.changed.touched_are c.in_ok-held.field-0.held.index c.in_ok-held.ensures.taken_in.entities_are
+    c.args.changed.now.touched.local c.args.changed.now.touched.paired c.args.changed.now.touched.bounded c.args.changed.now.touched.peaked c.requires.changed.touched_are c.in_ok-placed.placed.held.index c.in_ok-placed.ensures.taken_in.entities_are
 
 pub returns-clause-judged : goal.returns-clause-judged
 returns-clause-judged g c =
@@ -32,10 +33,10 @@ returns-clause-judged g c =
     let paired = c.args.changed.now.touched.paired in
     let bounded = c.args.changed.now.touched.bounded in
     let peaked = c.args.changed.now.touched.peaked in
-    let held = state_of c.in_ok-held.field-0.held in
-    let last = c.judge_parts.new.index in
-    let before = c.in_ok-held.field-0.tolds in
-    let after = c.judge_parts.new.tolds in
+    let held = state_of c.in_ok-placed.placed.held in
+    let last = c.judge_placed.new.placed.held.index in
+    let before = c.in_ok-placed.placed.tolds in
+    let after = c.judge_placed.new.placed.tolds in
     let at : IsAtHand t n state s rows.pairs local paired bounded peaked held = record {
       is_state = c.requires.state;
       cached = c.requires.cached;
@@ -43,13 +44,14 @@ returns-clause-judged g c =
       fits = c.requires.feed;
       alike = alike (lasts_then s (feed_of state)) (own_then state s c.requires.state c.requires.taken c.requires.feed) rows c.requires.changed.moved_is.replaced.held_are c.stands_in_order.ensures;
       touched = c.requires.changed.touched_are;
-      into = c.in_ok-held.ensures.taken_in;
+      into = c.in_ok-placed.ensures.taken_in;
     } in
-    let passed = subst (λ (ts : Option ℤ). ArePassed t n ts c.args.taken.moment rows.pairs (peak_of held.peaks) local paired bounded peaked held.index last before after) (ap timestamp_of (ap feed_header_value c.in_ok-held.ensures.header ∙ c.requires.coming.header_is)) c.in_ok-judge_parts.ensures.passed in
+    let passed = subst (λ (ts : Option ℤ). ArePassed t n ts c.args.taken.moment rows.pairs (peak_of held.peaks) local paired bounded peaked held.index last before after) (ap timestamp_of (ap feed_header_value c.in_ok-placed.ensures.header ∙ c.requires.coming.header_is)) c.in_ok-judge_placed.ensures.passed in
     let owed = judged_is_owed t n state s rows.pairs local paired bounded peaked _ at last before after passed in
+    subst (λ h. IsJudged t n s state c.args.changed.now.touched (state_of h) after) (sym c.in_ok-judge_placed.ensures.rest)
     record {
       is_state = owed.is_state;
       next = owed.next;
       cached = owed.cached;
-      change = λ ordered. judged_is_change t n state s rows.pairs local paired bounded peaked _ at last before after passed c.in_ok-held.ensures.told ordered;
+      change = λ ordered. judged_is_change t n state s rows.pairs local paired bounded peaked _ at last before after passed c.in_ok-placed.ensures.told ordered;
     }
