@@ -9,7 +9,7 @@
 //! decodes.
 //!
 //! From the bottom up: `numbers` has those of slots, `part` is a range, `header` holds the header's payloads joined, `layout` says where
-//! the header and the entities lie, `walking` goes through the fields as far as bytes came, `kept` and `splitter` are the two types.
+//! the header and the entities lie, `beside` finds entities of the snapshot before, `walking` goes through the fields as far as bytes came, `kept` and `splitter` are the two types.
 //! `laws` says where an entity stands, in words of the snapshot's fields, and which refusals stay.
 #![tactic(auto)]
 
