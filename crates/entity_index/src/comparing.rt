@@ -15,8 +15,8 @@ use crate::incoming::Changes;
 use crate::keys::{first_key, have_same_ids, keys_by_place, next_occurrence, none_counted};
 use crate::room::Room;
 use feed_stream::Kept;
-use feed_values::{Items, Text};
-use rule_table::EntityKey;
+use feed_values::Items;
+use rule_table::{EntityId, EntityKey};
 use std::alloc::{AllocError, Global};
 use std::collections::BTreeMap;
 
@@ -100,7 +100,7 @@ fn put_changed(
     if kept.entity(place) == room.kept.entity(place) {
         return Ok(());
     }
-    let id = Text::of(alloc, kept.entity_id(place))?;
+    let id = EntityId::of(alloc, kept.entity_id(place))?;
     let occurrence = room.occurrences[place];
     let key = EntityKey {
         feed: room.feed,
@@ -204,10 +204,10 @@ fn was_met(met: &[bool], place: usize) -> bool
     met.get(place).copied().unwrap_or(false)
 }
 
-fn push_copy(alloc: Global, keys: &mut Items<EntityKey>, key: &EntityKey) -> Result<(), AllocError>
+fn push_copy(keys: &mut Items<EntityKey>, key: &EntityKey) -> Result<(), AllocError>
     ensures { OnOk result (keys.new ≡ keys.old ++ key.now ∷ []) }
 {
-    keys.push(key.clone(alloc)?)?;
+    keys.push(key.clone()?)?;
     Ok(())
 }
 
@@ -218,7 +218,7 @@ fn not_met(alloc: Global, room: &Room, met: &[bool]) -> Result<Items<EntityKey>,
     let mut gone = Items::new(alloc);
     for (key, seat) in &room.entries {
         if !was_met(met, seat.place()) {
-            push_copy(alloc, &mut gone, key)?;
+            push_copy(&mut gone, key)?;
         }
     }
     Ok(gone)

@@ -8,8 +8,7 @@ ghost use Rattle.entity_index.specs.Changes.{keyed_in};
 ghost use Rattle.entity_index.specs.Tally.{IsTally, came_then, first_key};
 
 use feed_stream::Kept;
-use feed_values::Text;
-use rule_table::{EntityKey, count_one};
+use rule_table::{EntityId, EntityKey, count_one};
 use std::alloc::{AllocError, Global};
 use std::collections::BTreeMap;
 
@@ -28,7 +27,7 @@ pub(crate) fn keys_by_place(
     for place in 0..kept.len() {
         let id = kept.entity_id(place);
         let occurrence = count_one(alloc, &mut counts, id)?;
-        let id = Text::of(alloc, id)?;
+        let id = EntityId::of(alloc, id)?;
         keys.push(EntityKey {
             feed,
             id,
@@ -50,7 +49,7 @@ pub(crate) fn first_key(
 {
     Ok(EntityKey {
         feed,
-        id: Text::of(alloc, kept.entity_id(place))?,
+        id: EntityId::of(alloc, kept.entity_id(place))?,
         occurrence: 0,
     })
 }

@@ -57,7 +57,7 @@ fn one<L: Ledger>(
     let mut parts = Parts::new(alloc);
     parts.set(0, standings(alloc, table, key, &entity, since, steps)?);
     Ok(Incoming {
-        key: key.clone(alloc)?,
+        key: key.clone()?,
         entity,
         parts,
     })

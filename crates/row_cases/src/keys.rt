@@ -1,16 +1,14 @@
 //! Keys of entities in text.
 
-use feed_values::{Items, Text};
-use rule_table::EntityKey;
+use feed_values::Items;
+use rule_table::{EntityId, EntityKey};
 use std::alloc::{AllocError, Global};
 
 /// The key of a feed and an id, with an occurrence.
 pub fn key_of(alloc: Global, feed: u8, id: &str, occurrence: u32) -> Result<EntityKey, AllocError> {
-    let mut owned = Text::new(alloc);
-    owned.push(id)?;
     Ok(EntityKey {
         feed,
-        id: owned,
+        id: EntityId::of(alloc, id)?,
         occurrence,
     })
 }

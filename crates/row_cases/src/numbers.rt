@@ -3,7 +3,7 @@
 use cases::{say_some, size, word};
 use feed_values::Text;
 use pairing_rules::{PairIndex, PairRow};
-use rule_table::Kind;
+use rule_table::{EntityId, Kind};
 use std::alloc::{AllocError, Global};
 use std::mem;
 
@@ -34,7 +34,7 @@ fn row(alloc: Global, sort: &str, number: u32) -> Result<PairRow, AllocError> {
     Ok(PairRow {
         kind: Kind::Vehicle,
         feed: 0,
-        id,
+        id: EntityId::of(alloc, id.as_str())?,
         occurrence: number,
         trip: Some(trip),
         vehicle: Some(vehicle),

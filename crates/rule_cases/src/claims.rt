@@ -5,8 +5,8 @@ use crate::paths::path_of;
 use crate::rules::rule_of;
 use cases::word;
 use evidence::breaks;
-use feed_values::{Items, Path, Text};
-use rule_table::{EntityKey, Fact, Finding, Place, RuleId};
+use feed_values::{Items, Path};
+use rule_table::{EntityId, EntityKey, Fact, Finding, Place, RuleId};
 use std::alloc::{AllocError, Global};
 
 /// Facts of which a rule at a place is asked.
@@ -17,13 +17,6 @@ pub struct Claim {
     pub facts: Items<Fact>,
 }
 
-/// A text of its own.
-pub fn text_of(alloc: Global, text: &str) -> Result<Text, AllocError> {
-    let mut owned = Text::new(alloc);
-    owned.push(text)?;
-    Ok(owned)
-}
-
 // The place of `header PATH` is on the header of feed 3, and that of `entity PATH` at entity `q` of feed 3, which is the third of
 // that id.
 fn place_of(alloc: Global, holder: &str, path: Path) -> Result<Place, AllocError> {
@@ -32,7 +25,7 @@ fn place_of(alloc: Global, holder: &str, path: Path) -> Result<Place, AllocError
     }
     let key = EntityKey {
         feed: 3,
-        id: text_of(alloc, "q")?,
+        id: EntityId::of(alloc, "q")?,
         occurrence: 2,
     };
     Ok(Place::Entity(key, path))

@@ -20,14 +20,14 @@ fn copied_facts(alloc: Global, facts: &[Fact]) -> Result<Items<Fact>, AllocError
 fn copied_parts(alloc: Global, finding: &Finding) -> Result<Claim, AllocError> {
     Ok(Claim {
         rule: finding.rule(),
-        place: finding.place().clone(alloc)?,
+        place: finding.place().clone()?,
         facts: copied_facts(alloc, finding.facts().as_slice())?,
     })
 }
 
-fn is_key_copied(alloc: Global, place: &Place) -> Result<bool, AllocError> {
+fn is_key_copied(place: &Place) -> Result<bool, AllocError> {
     match place {
-        Place::Entity(key, _) => Ok(key.clone(alloc)? == *key),
+        Place::Entity(key, _) => Ok(key.clone()? == *key),
         Place::Head(_, _) => Ok(false),
     }
 }
@@ -66,7 +66,7 @@ fn say_of(
     match word(words, 0) {
         "copy" => say_finding(alloc, LineKind::Finding, &finding.clone(alloc)?, since, out),
         "copy-parts" => say_parts(alloc, finding, since, out),
-        "copy-key" => say_whether(out, is_key_copied(alloc, finding.place())?),
+        "copy-key" => say_whether(out, is_key_copied(finding.place())?),
         "opened" => say_finding(alloc, LineKind::Opened, finding, since, out),
         _ => say_finding(alloc, LineKind::Finding, finding, since, out),
     }

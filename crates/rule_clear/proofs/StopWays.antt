@@ -1,8 +1,9 @@
 -- The cells of an entity behind one of its stop time updates.
 use Rattle.std.proofs.Common.{◌<◌, ◌-◌, slice_index_or, sym, ap, ◌∙◌, subst}
-use Rattle.std.specs.Prelude.{◌≡◌, ℕ, ◌==◌, pos, Bool, true, false, ◌||◌, List, length, drop, map, Option, Some, None, option_map, slice_get, refl}
+use Rattle.std.specs.Prelude.{◌≡◌, ℕ, ◌==◌, pos, true, List, length, drop, map, Option, Some, None, option_map, slice_get, refl}
 use Rattle.std.proofs.lemmas.List.{length-map}
 use Rattle.std.proofs.lemmas.Option.{slice_get-map, slice_get_read}
+use Rattle.std.proofs.Math.Bool.{or-true}
 use Rattle.feed_values.specs.Schema.{Value}
 use Rattle.feed_values.specs.Messages.{entity, stop_time_update, stop_time_event}
 use Rattle.feed_values.specs.Meaning.{option_case}
@@ -20,10 +21,6 @@ use Rattle.feed_values.specs.declared.stop_time_update.StopTimeUpdate.{StopTimeU
 use Rattle.std.specs.Option.{is_none}
 use Rattle.rule_table.specs.Judged.{places_at}
 use Rattle.rule_clear.specs.Sound.{AreUpdates, IsUpdateAt, StandsAlone, ComesAfter, IsSound, Follows, cells_at, cells_in}
-
-pub or_true : (b : Bool) → (b || true) ≡ true
-or_true true = refl
-or_true false = refl
 
 -- the updates that an entity holds
 pub held_updates : (e : Entity) (u : TripUpdate) (stops : List StopTimeUpdate) → e.trip_update ≡ Some u → u.stop_time_update ≡ stops → AreUpdates (entity_value e) stops
@@ -46,17 +43,17 @@ read_at e stops i stop k below h = update_at e stops i stop k (slice_get_read st
 -- behind an update's own way
 behind : (e : Value entity) (i : ℕ) (v : Value stop_time_update) (s : Slot) → has_item_of "stop_time_update" (way s) ≡ true → IsUpdateAt e i v
     → entity_cell e s i ≡ cell_in stop_time_update v 0 (drop 2 (way s))
-behind e i v S31 h k = rw (or_true (i == 0), k.held, k.item) refl
-behind e i v S32 h k = rw (or_true (i == 0), k.held, k.item) refl
-behind e i v S33 h k = rw (or_true (i == 0), k.held, k.item) refl
-behind e i v S34 h k = rw (or_true (i == 0), k.held, k.item) refl
-behind e i v S35 h k = rw (or_true (i == 0), k.held, k.item) refl
-behind e i v S36 h k = rw (or_true (i == 0), k.held, k.item) refl
-behind e i v S37 h k = rw (or_true (i == 0), k.held, k.item) refl
-behind e i v S38 h k = rw (or_true (i == 0), k.held, k.item) refl
-behind e i v S39 h k = rw (or_true (i == 0), k.held, k.item) refl
-behind e i v S40 h k = rw (or_true (i == 0), k.held, k.item) refl
-behind e i v S41 h k = rw (or_true (i == 0), k.held, k.item) refl
+behind e i v S31 h k = rw (or-true (i == 0), k.held, k.item) refl
+behind e i v S32 h k = rw (or-true (i == 0), k.held, k.item) refl
+behind e i v S33 h k = rw (or-true (i == 0), k.held, k.item) refl
+behind e i v S34 h k = rw (or-true (i == 0), k.held, k.item) refl
+behind e i v S35 h k = rw (or-true (i == 0), k.held, k.item) refl
+behind e i v S36 h k = rw (or-true (i == 0), k.held, k.item) refl
+behind e i v S37 h k = rw (or-true (i == 0), k.held, k.item) refl
+behind e i v S38 h k = rw (or-true (i == 0), k.held, k.item) refl
+behind e i v S39 h k = rw (or-true (i == 0), k.held, k.item) refl
+behind e i v S40 h k = rw (or-true (i == 0), k.held, k.item) refl
+behind e i v S41 h k = rw (or-true (i == 0), k.held, k.item) refl
 behind e i v _ h k = absurd cc
 
 of_event : (held : Option StopTimeEvent) (f : StopTimeEvent → CellValue) (g : Value stop_time_event → CellValue) → ((event : StopTimeEvent) → f event ≡ g (stop_time_event_value event))

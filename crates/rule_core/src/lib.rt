@@ -12,6 +12,5 @@ pub use rule_table::{
     Finding, FindingList, HeadRule, Kind, Mark, NoneClear, PairRule, PairView, PeakRule, PeakView,
     Place, PlaceRef, RuleId, Rules, all_rules, ask_of, cell_of, cites, cites_at, first, head_cites,
     head_slots, head_test, is_in_range, judge_head, judge_heads, judge_mark, judge_rules,
-    mark_rules, number_cell, slots, slots_at, stamp_cell, test, test_at, test_passes, text_cell,
-    truth_cell,
+    mark_rules, number_cell, slots, slots_at, test, test_at, test_passes, truth_cell,
 };

@@ -5,6 +5,7 @@ use Rattle.std.proofs.Common.{inl, inr, sym, ap, ◌∙◌, subst, arith, append
 use Rattle.std.proofs.Math.Nat.{eq-or-lt_of_le}
 use borrow.Author.Tests.{eqb-true}
 use Rattle.std.proofs.lemmas.Bool.{and_parts, or_cases}
+use Rattle.std.proofs.Math.Bool.{or-true}
 use Rattle.feed_values.specs.declared.slot.Slot.{Slot}
 use Rattle.feed_values.specs.declared.slot.Slot.TheVariants.{S1, S2, S3, S4, S10, S11, S20, S21, S22, S23, S24, S25, S26, S27, S28, S29, S30, S31, S32, S33, S34, S35, S36, S37, S38, S39, S40, S41, S42, S43, S44, S50, S51, S52, S53, S54, S55, S56, S57, S58, S59, S60, S70, S71, S72, S73, S74, S75, S76, S77, S78, S79, S80, S81, S82, S83, S84, S85}
 use Rattle.feed_values.specs.declared.path.Path.{Path}
@@ -59,13 +60,9 @@ selector_there : (o : Option (Value alert)) (i : ℕ) (g : Value entity_selector
 selector_there None i g h = cc
 selector_there (Some a) i g h = get_below a.1.0 i (given_some (slice_get a.1.0 i) g h)
 
-or_true : (b : Bool) → (b || true) ≡ true
-or_true true = refl
-or_true false = refl
-
 -- a cell of a slot with an index, without the test of the index
 read : (i : ℕ) (c : CellValue) → is_given (if (i == 0) || true then c else value.Missing) ≡ true → is_given c ≡ true
-read i c h = subst (λ b. is_given (cond b c value.Missing) ≡ true) (or_true (i == 0)) h
+read i c h = subst (λ b. is_given (cond b c value.Missing) ≡ true) (or-true (i == 0)) h
 
 cell_there : (s : Slot) (i : ℕ) (e : Value entity) → has_item (way s) ≡ true → is_given (entity_cell e s i) ≡ true → i < places_at e s
 cell_there S1 i e x h = cc

@@ -8,3 +8,5 @@ pub mod FactsEnd
 pub mod CountedMore
 pub mod SameKeys
 pub mod SameAsks
+pub mod SameTests
+pub mod Keyed

@@ -2,8 +2,9 @@
 use Rattle.std.proofs.Common.{arith, ap, sym, ◌∙◌}
 use Rattle.std.specs.Prelude.{◌≡◌, ◌<◌, ℕ, suc, ◌==◌, ℤ, Bool, true, false, not, ◌&&◌, ◌||◌, cond, length, List, [], ◌∷◌, ◌++◌, Option, Some, None, refl}
 use Rattle.std.specs.List.{list_any}
-use Rattle.std.proofs.lemmas.Bool.{eqb-true, and_parts}
+use Rattle.std.proofs.lemmas.Bool.{eqb-true, and_parts, not-true}
 use Rattle.std.proofs.lemmas.List.{length-append}
+use Rattle.std.proofs.Math.Bool.{and-false}
 use Rattle.rt_day.specs.Time.{time_of}
 use Rattle.feed_values.specs.declared.path.Path.{Path}
 use Rattle.feed_values.specs.declared.cell_value.CellValue.{CellValue}
@@ -39,10 +40,6 @@ either_is j k n P h f g = either (j == n) (k == n) P h (λ e. f (eqb-true j n e)
 and_none : (a b : Bool) → (a && false && b) ≡ false
 and_none true b = refl
 and_none false b = refl
-
-and_false : (a : Bool) → (a && false) ≡ false
-and_false true = refl
-and_false false = refl
 
 -- ---- an entry that names what is missing makes no ask
 no_last : {A B : Type 0} (make : A → B → Ask) (a : Option A) → with_both make a None ≡ None
@@ -165,7 +162,7 @@ one_fails at vs test f [] h = never h
 one_fails at vs test f (a ∷ atoms) h =
     either (test a) (list_any test atoms) (passes at (a ∷ atoms) vs ≡ false) h
     (λ e. ap (λ x. x && passes at atoms vs) (f a e))
-    (λ e. ap (λ x. holds at vs a && x) (one_fails at vs test f atoms e) ∙ and_false (holds at vs a))
+    (λ e. ap (λ x. holds at vs a && x) (one_fails at vs test f atoms e) ∙ and-false (holds at vs a))
 
 -- ---- rows that aren't broken, for whatever answers
 module _ (answer : Ask → Option CellValue) (at : Place) (atoms : List Atom) where
@@ -190,10 +187,6 @@ module _ (answer : Ask → Option CellValue) (at : Place) (atoms : List Atom) wh
   last_is [] v = refl
   last_is (x ∷ xs) v = last_is xs v
 
-  given_not : (b : Bool) → not b ≡ true → b ≡ false
-  given_not true h = never h
-  given_not false h = refl
-
   -- after the place's own value
   pub settled_after : (vs : List CellValue) (given : Bool) (cs : List Cite) (v : CellValue) → is_given v ≡ given
       → ((not given && list_any (names (length vs)) cs) || list_any (fails given (length vs)) atoms) ≡ true → broken_from answer at atoms (vs ++ v ∷ []) cs ≡ false
@@ -203,7 +196,7 @@ module _ (answer : Ask → Option CellValue) (at : Place) (atoms : List Atom) wh
       either (not given && list_any (names n) cs) (list_any (fails given n) atoms) (broken_from answer at atoms (vs ++ v ∷ []) cs ≡ false) h
       (λ e.
       let both = and_parts (not given) (list_any (names n) cs) e in
-      unbroken_where_unasked (vs ++ v ∷ []) n cs (last_is vs v ∙ missing_is v (is ∙ given_not given both.0)) below both.1)
+      unbroken_where_unasked (vs ++ v ∷ []) n cs (last_is vs v ∙ missing_is v (is ∙ not-true given both.0)) below both.1)
       (λ e. unbroken_where_one_fails (vs ++ v ∷ []) n given cs (ap is_given (last_is vs v) ∙ is) below e)
 
   place_is : (c : Cite) → is_place c ≡ true → c ≡ cite.Place

@@ -41,13 +41,13 @@ path_is p q h =
     let parts = and_parts (slot_number p.slot == slot_number q.slot) (p.index == q.index) h in
     ap (λ s. let r : Path = record { slot = s; index = p.index } in r) (slot_is p.slot q.slot parts.0) ∙ ap (λ i. let r : Path = record { slot = q.slot; index = i } in r) (eqb-true p.index q.index parts.1)
 
-kind_is : (k l : Kind) → same_kind k l ≡ true → k ≡ l
+pub kind_is : (k l : Kind) → same_kind k l ≡ true → k ≡ l
 kind_is kind.TripUpdate kind.TripUpdate h = refl
 kind_is kind.TripUpdate kind.Vehicle h = never h
 kind_is kind.Vehicle kind.TripUpdate h = never h
 kind_is kind.Vehicle kind.Vehicle h = refl
 
-text_is : (a b : List ℕ) → bytes_eq a b ≡ true → a ≡ b
+pub text_is : (a b : List ℕ) → bytes_eq a b ≡ true → a ≡ b
 text_is a b h = (bytes_eq-Decides a b).0 h
 
 -- ---- asks
@@ -102,10 +102,10 @@ ask_is _ _ h = never h
 number_same : (n : ℕ) → (n == n) ≡ true
 number_same n = eq-eqb n n refl
 
-text_same : (a : List ℕ) → bytes_eq a a ≡ true
+pub text_same : (a : List ℕ) → bytes_eq a a ≡ true
 text_same a = (bytes_eq-Decides a a).1 refl
 
-kind_same : (k : Kind) → same_kind k k ≡ true
+pub kind_same : (k : Kind) → same_kind k k ≡ true
 kind_same kind.TripUpdate = refl
 kind_same kind.Vehicle = refl
 

@@ -3,7 +3,7 @@ use Rattle.std.specs.Prelude.{◌≡◌, ℕ, ◌+◌, ◌<◌, ◌≤◌, ◌==
 use Rattle.std.specs.List.{list_any}
 use Rattle.std.proofs.Common.{ap, ◌∙◌, sym, subst, arith, append_assoc, eq-eqb}
 use borrow.Author.Tests.{eqb-true, leb-true}
-use Rattle.std.proofs.lemmas.Bool.{and_parts, not-true}
+use Rattle.std.proofs.lemmas.Bool.{and_parts, not-true, or_right, or_left}
 use Rattle.feed_values.specs.declared.slot.Slot.{Slot}
 use Rattle.feed_values.specs.declared.path.Path.{Path}
 use Rattle.feed_values.specs.declared.cell_value.CellValue.{CellValue}
@@ -39,14 +39,6 @@ each_weaken P Q w (x ∷ xs) h = (w x h.0, each_weaken P Q w xs h.1)
 pub once_append : (xs ys : List Found) → Once xs → Once ys → Each (λ f. Each (Differ f) ys) xs → Once (xs ++ ys)
 once_append [] ys h k d = k
 once_append (x ∷ xs) ys h k d = (each_append (Differ x) xs ys h.0 d.0, once_append xs ys h.1 k d.1)
-
-pub or_left : (b c : Bool) → b ≡ true → (b || c) ≡ true
-or_left true c h = refl
-or_left false c h = cc
-
-pub or_right : (b c : Bool) → c ≡ true → (b || c) ≡ true
-or_right true c h = refl
-or_right false c h = h
 
 has_append_left : (ra rb : List RuleId) (n : ℕ) → has_number ra n ≡ true → has_number (ra ++ rb) n ≡ true
 has_append_left [] rb n h = cc
@@ -217,7 +209,7 @@ once_in rule answer k e n (s ∷ slots) h =
     clash a b c h m q = omega arith
 
 -- each rule's slots rise
-slots_rise : (rule : RuleId) → rise 0 (slots_of rule) ≡ true
+pub slots_rise : (rule : RuleId) → rise 0 (slots_of rule) ≡ true
 slots_rise = each_rule (λ r. rise 0 (slots_of r)) refl
 
 pub is_one : (rule : RuleId) → has_rule (rule ∷ []) rule ≡ true

@@ -1,6 +1,7 @@
 -- What an ask is made of: a number for what is asked, and the numbers and texts that it is asked of.
 use Rattle.std.specs.Prelude.{◌≡◌, ℕ, ◌==◌, Bool, true, false, ◌&&◌, List, [], bytes_eq, refl}
 use Rattle.std.proofs.Common.{sym, ap, ◌∙◌}
+use Rattle.std.proofs.Math.Bool.{and-true}
 use Rattle.rule_table.specs.declared.ask.Ask.{Ask}
 use Rattle.rule_table.specs.declared.ask.Ask.TheVariants as ask
 use Rattle.rule_table.specs.Kinds.{kind_number}
@@ -60,29 +61,26 @@ abbrev pub same_parts : AskParts → AskParts → Bool
 same_parts a b = a.what == b.what && a.number == b.number && a.index == b.index && bytes_eq a.first b.first && bytes_eq a.second b.second
 
 -- ---- asks are the same where their parts are
-last_true : (a : Bool) → (a && true) ≡ a
-last_true true = refl
-last_true false = refl
 
 module _ (a b : Bool) where
   one_left : a ≡ ((a && true) && true)
-  one_left = sym (last_true (a && true) ∙ last_true a)
+  one_left = sym (and-true (a && true) ∙ and-true a)
 
   two_left : (a && b) ≡ ((a && true && b) && true)
-  two_left = sym (last_true (a && true && b) ∙ ap (λ c. c && b) (last_true a))
+  two_left = sym (and-true (a && true && b) ∙ ap (λ c. c && b) (and-true a))
 
 -- a number, then an index
 numbers : (a b : Bool) → (a && b) ≡ ((a && b) && true && true)
-numbers a b = sym (last_true ((a && b) && true) ∙ last_true (a && b))
+numbers a b = sym (and-true ((a && b) && true) ∙ and-true (a && b))
 
 one_number : (a : Bool) → a ≡ ((a && true) && true && true)
-one_number a = sym (last_true ((a && true) && true) ∙ last_true (a && true) ∙ last_true a)
+one_number a = sym (and-true ((a && true) && true) ∙ and-true (a && true) ∙ and-true a)
 
 one_text : (a : Bool) → a ≡ (a && true)
-one_text a = sym (last_true a)
+one_text a = sym (and-true a)
 
 with_text : (a b : Bool) → (a && b) ≡ (a && true && b && true)
-with_text a b = sym (last_true (a && true && b) ∙ ap (λ c. c && b) (last_true a))
+with_text a b = sym (and-true (a && true && b) ∙ ap (λ c. c && b) (and-true a))
 
 text_first : (a b : Bool) → (b && a) ≡ (a && true && b && true)
 text_first a b = swapped a b ∙ with_text a b
@@ -94,7 +92,7 @@ text_first a b = swapped a b ∙ with_text a b
     swapped false false = refl
 
 with_texts : (a b c : Bool) → (a && b && c) ≡ (a && true && b && c)
-with_texts a b c = ap (λ d. d && b && c) (sym (last_true a))
+with_texts a b c = ap (λ d. d && b && c) (sym (and-true a))
 
 pub parts_same : (a b : Ask) → same_ask a b ≡ same_parts (parts_of a) (parts_of b)
 parts_same (ask.Cell p) (ask.Cell q) = numbers (slot_number p.slot == slot_number q.slot) (p.index == q.index)

@@ -305,7 +305,7 @@ fn ask_with<'a>(place: PlaceRef<'_>, keys: Keys<'a>, cite: Cite) -> AskRef<'a>
 
 /// What a row's entry asks at a place, after the cells that were cited before it. None where a text or a number that it
 /// names isn't there.
-#[tactic(auto, using(crate::specs::Keys::asked))]
+#[tactic(auto, using(crate::proofs::Keyed::asked))]
 pub fn ask_of<'a>(place: PlaceRef<'_>, cells: &[CellRef<'a>], cite: Cite) -> Option<AskRef<'a>>
     ensures { option_map ask_value result ≡ ask_at (place_value place.entry) (map cell_value cells.now) cite }
 {

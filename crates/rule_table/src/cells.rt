@@ -1,6 +1,6 @@
 //! Cited cells by their numbers.
 ghost use Rattle.std.specs.Prelude.{◌≡◌, IfOk, map, option_copied};
-ghost use Rattle.feed_values.specs.Cells.{cell_value, text_cell};
+ghost use Rattle.feed_values.specs.Cells.{cell_value};
 ghost use Rattle.rule_table.specs.Asked.{value_at, text_at, number_at, sequence_at, in_range};
 ghost use Rattle.rule_table.specs.Answers.{yes, natural_cell};
 
@@ -98,28 +98,5 @@ pub fn truth_cell(holds: bool) -> CellRef<'static>
 pub fn number_cell(number: Option<u32>) -> CellRef<'static>
     ensures { cell_value result ≡ natural_cell number }
 {
-    match number {
-        Some(number) => CellRef::Number(number as i128),
-        None => CellRef::Missing,
-    }
-}
-
-/// A timestamp as a cell, `Missing` where there is none.
-pub fn stamp_cell(stamp: Option<u64>) -> CellRef<'static>
-    ensures { cell_value result ≡ natural_cell stamp }
-{
-    match stamp {
-        Some(stamp) => CellRef::Number(stamp as i128),
-        None => CellRef::Missing,
-    }
-}
-
-/// A text as a cell, `Missing` where there is none.
-pub fn text_cell(text: Option<&str>) -> CellRef<'_>
-    ensures { cell_value result ≡ text_cell (option_copied text.entry) }
-{
-    match text {
-        Some(text) => CellRef::Text(text),
-        None => CellRef::Missing,
-    }
+    feed_values::natural_cell(number.map(u64::from))
 }

@@ -64,7 +64,7 @@ impl Finding {
     pub fn clone(&self, alloc: Global) -> Result<Finding, AllocError>
         ensures { IfOk result (λ copy. copy ≡ self.now) }
     {
-        let place = self.place.clone(alloc)?;
+        let place = self.place.clone()?;
         let facts = copied_facts(alloc, self.facts.as_slice())?;
         Ok(Finding {
             rule: self.rule,

@@ -5,22 +5,15 @@ ghost use Rattle.rule_table.specs.Judged.{update_of};
 ghost use Rattle.rule_table.specs.Pairs.{vehicle_of, vehicle_id_in, trip_id_in, same_id};
 ghost use Rattle.rule_table.specs.Ids.{ids_value, of_update, of_vehicle, update_ids, vehicle_ids, same_ids};
 
-use feed_values::{Entity, Text, TripDescriptor, TripUpdate, VehicleDescriptor, VehiclePosition};
+use feed_values::{
+    Entity, Text, TripDescriptor, TripUpdate, VehicleDescriptor, VehiclePosition, given,
+};
 
 /// The trip id and the vehicle id that are given.
 #[derive(Clone, Copy)]
 pub struct Ids<'a> {
     pub trip: Option<&'a Text>,
     pub vehicle: Option<&'a Text>,
-}
-
-fn given(text: &Option<Text>) -> Option<&Text>
-    ensures { option_copied result ≡ text.now }
-{
-    match text {
-        None => None,
-        Some(text) => Some(text),
-    }
 }
 
 fn vehicle_id(vehicle: &Option<VehicleDescriptor>) -> Option<&Text>

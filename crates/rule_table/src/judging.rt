@@ -108,7 +108,7 @@ fn judge_place<A: Answers>(
     let Some(facts) = cite(alloc, answers, place, cites, test_at(rule, place))? else {
         return Ok(());
     };
-    let place = place.to_place(alloc)?;
+    let place = place.to_place()?;
     out.push(Finding::new(rule, place, facts))
 }
 

@@ -11,7 +11,7 @@
 //! A `Finding` is a rule, a place and the facts that it cites there. They break the rule, in every finding that there
 //! is, so a finding can be shown by itself.
 //!
-//! From the bottom up: `kind`, `key`, `place`, `ask`, `fact` and `mark` are what a finding is made of, `finding` and `finding_list` findings;
+//! From the bottom up: `kind`, `entity_id`, `key`, `place`, `ask`, `fact` and `mark` are what a finding is made of, `finding` and `finding_list` findings;
 //! `order` has the numbers by which they go in order, `same` tells whether facts are the same, by the `parts` of their asks;
 //! `ids` are those that a trip update or a vehicle position gives, `keys` puts keys in order, and `counting` counts the ids by which entities have them.
 //! `rule` names the rules, `row` is what a row is made of and `table` all of them. `cells` are cited cells, `passing` the tests on them,
@@ -29,6 +29,7 @@ mod cells;
 mod citing;
 mod clear_slots;
 mod counting;
+mod entity_id;
 mod fact;
 mod finding;
 mod finding_list;
@@ -59,9 +60,10 @@ pub use ask::{Ask, AskRef};
 pub use asking::ask_of;
 pub use both::Both;
 pub use bound_rule::{Bound, BoundRule};
-pub use cells::{cell_of, is_in_range, number_cell, stamp_cell, text_cell, truth_cell};
+pub use cells::{cell_of, is_in_range, number_cell, truth_cell};
 pub use clear_slots::{ClearSlots, NoneClear};
 pub use counting::count_one;
+pub use entity_id::EntityId;
 pub use fact::{Fact, FactRef};
 pub use finding::Finding;
 pub use finding_list::FindingList;

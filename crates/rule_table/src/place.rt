@@ -4,7 +4,7 @@ ghost use Rattle.rule_table.specs.Asked.{place_value, slot_of, index_of};
 
 use crate::key::EntityKey;
 use feed_values::{Path, Slot};
-use std::alloc::{AllocError, Global};
+use std::alloc::AllocError;
 
 /// Where a finding stands: at a slot of a feed's last header, or at a path of an entity.
 #[derive(Drop)]
@@ -21,11 +21,11 @@ pub enum PlaceRef<'a> {
 }
 
 impl Place {
-    /// Makes the place again.
-    pub fn clone(&self, alloc: Global) -> Result<Place, AllocError>
+    /// The same place. It shares the entity's id.
+    pub fn clone(&self) -> Result<Place, AllocError>
         ensures { IfOk result (λ copy. copy ≡ self.now) }
     {
-        self.borrowed().to_place(alloc)
+        self.borrowed().to_place()
     }
 
     /// The place with its key borrowed.
@@ -41,12 +41,12 @@ impl Place {
 
 impl PlaceRef<'_> {
     /// The place with a key of its own.
-    pub fn to_place(self, alloc: Global) -> Result<Place, AllocError>
+    pub fn to_place(self) -> Result<Place, AllocError>
         ensures { IfOk result (λ place. place ≡ place_value self.entry) }
     {
         match self {
             PlaceRef::Head(feed, slot) => Ok(Place::Head(feed, slot)),
-            PlaceRef::Entity(key, path) => Ok(Place::Entity(key.clone(alloc)?, path)),
+            PlaceRef::Entity(key, path) => Ok(Place::Entity(key.clone()?, path)),
         }
     }
 

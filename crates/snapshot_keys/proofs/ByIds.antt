@@ -1,6 +1,8 @@
--- Rows by the ids that bytes give are those of the entity.
+-- Rows by the ids that bytes give are those of the entity, and keys that compare alike have one id.
 use Rattle.std.proofs.Common.{◌≡◌, ℕ, List, [], ◌∷◌, get_or, Some, None, refl, ap, sym, ◌∙◌}
 use Rattle.std.specs.Prelude.{option_map}
+use Rattle.std.specs.Ordering.{is_eq}
+use Rattle.std.specs.declared.cmp.Ordering.TheVariants as order
 use Rattle.std.specs.declared.option.Option.{Option}
 use Rattle.feed_values.specs.Schema.{Value}
 use Rattle.feed_values.specs.Messages.{trip_update, vehicle_position}
@@ -8,13 +10,18 @@ use Rattle.feed_values.specs.Snapshot.{entity_of, entity_payloads}
 use Rattle.rule_table.specs.declared.key.EntityKey.{EntityKey}
 use Rattle.rule_table.specs.declared.kind.Kind.{Kind}
 use Rattle.rule_table.specs.declared.kind.Kind.TheVariants as kind
+use Rattle.rule_table.specs.Order.{key_cmp}
 use Rattle.rule_table.specs.Pairs.{PairRow, update_rows, vehicle_rows}
+use Rattle.rule_table.proofs.SameKeys.{key_is, same-key}
 use Rattle.judging.specs.Judged.{put_rows}
 use Rattle.judging.proofs.Rowed.{put_append}
 use Rattle.snapshot_keys.specs.declared.ids.ReadIds.{ReadIds}
 use Rattle.snapshot_keys.specs.Ids.{update_ids, vehicle_ids}
 use Rattle.snapshot_keys.specs.Places.{Places, entity_at, placed}
 use Rattle.snapshot_keys.specs.Rowed.{ids_rows, kind_rows, rows_by}
+
+pub same_id : (k l : EntityKey) → key_cmp k l ≡ order.Equal → l.id ≡ k.id
+same_id k l h = ap (λ x. x.id) (sym (key_is k l (sym (same-key k l) ∙ ap is_eq h)))
 
 pub rows_of_update : (key : EntityKey) (u : Option (Value trip_update)) → ids_rows kind.TripUpdate key (option_map update_ids u) ≡ update_rows key u
 rows_of_update key None = refl

@@ -1,8 +1,9 @@
 -- One entity more of a snapshot.
-use Rattle.std.specs.Prelude.{◌≡◌, ◌<◌, ◌≤◌, ◌+◌, ℕ, zero, suc, List, [], ◌∷◌, ◌++◌, length, map, get_or, slice_get, take, drop, Some, cond, bytes_eq, refl}
+use Rattle.std.specs.Prelude.{◌≡◌, ◌<◌, ◌≤◌, ◌+◌, ℕ, List, [], ◌∷◌, ◌++◌, length, map, get_or, slice_get, take, drop, Some, cond, bytes_eq}
 use Rattle.std.specs.BTreeMap.{insert_entry}
-use Rattle.std.proofs.Common.{sym, ap, ◌∙◌, arith}
+use Rattle.std.proofs.Common.{sym, ap, ◌∙◌}
 use Rattle.std.proofs.lemmas.List.{drop_all, take_more, drop_more, map-append}
+use Rattle.std.proofs.lemmas.Option.{get_or_from_slice_get, slice_get-get_or}
 use Rattle.feed_values.specs.Schema.{Value}
 use Rattle.feed_values.specs.Messages.{entity}
 use Rattle.feed_values.specs.Snapshot.{entities_of, entity_of, entity_payloads}
@@ -12,29 +13,15 @@ use Rattle.rule_history.proofs.Keyed.{insert-mapped}
 use Rattle.rule_history.specs.History.{ordered_after}
 use Rattle.rule_table.specs.Order.{key_cmp}
 use Rattle.judging.specs.Seats.{Seat, count_id, id_of, seated_after, seats}
+use Rattle.judging.proofs.Counted.{count_last}
 use Rattle.snapshot_keys.specs.Places.{Places, entity_at, placed}
 
-count_last : (es : List (Value entity)) (e : Value entity) (id : List ℕ) → count_id (es ++ e ∷ []) id ≡ cond (bytes_eq (id_of e) id) 1 0 + count_id es id
-count_last [] e id = refl
-count_last (x ∷ es) e id = ap (λ n. cond (bytes_eq (id_of x) id) 1 0 + n) (count_last es e id) ∙ moved (cond (bytes_eq (id_of x) id) 1 0) (cond (bytes_eq (id_of e) id) 1 0) (count_id es id)
-  where
-    moved : (a b c : ℕ) → a + (b + c) ≡ b + (a + c)
-    moved a b c = omega arith
-
 pub read_payload : (ps : List (List ℕ)) (i : ℕ) (p : List ℕ) → Some p ≡ slice_get ps i → get_or ps i [] ≡ p
-read_payload [] zero p h = cc
-read_payload [] (suc i) p h = cc
-read_payload (q ∷ ps) zero p h = sym (same h)
-  where
-    same : Some p ≡ Some q → p ≡ q
-    same e = cc
-read_payload (q ∷ ps) (suc i) p h = read_payload ps i p h
+read_payload ps i p h = get_or_from_slice_get ps i p [] (sym h)
 
 -- each number below the count has a payload
 pub payload_there : (ps : List (List ℕ)) (i : ℕ) → i < length ps → Some (get_or ps i []) ≡ slice_get ps i
-payload_there [] i l = absurd (omega (arith, l))
-payload_there (p ∷ ps) zero l = refl
-payload_there (p ∷ ps) (suc i) l = payload_there ps i (omega (arith, l))
+payload_there ps i l = sym (slice_get-get_or ps i [] l)
 
 -- the key of an id before which others stand
 abbrev pub other_key : ℕ → List ℕ → ℕ → EntityKey

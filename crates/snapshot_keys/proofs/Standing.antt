@@ -1,5 +1,5 @@
 -- ReadIds that come again: each stands under its first key, and its others are counted.
-use Rattle.std.specs.Prelude.{◌≡◌, ◌+◌, ◌==◌, ◌&&◌, ◌||◌, not, Bool, true, false, is_some, ℕ, List, [], ◌∷◌, Some, cond, bytes_eq, refl}
+use Rattle.std.specs.Prelude.{◌≡◌, ◌+◌, ◌==◌, ◌&&◌, ◌||◌, Bool, true, false, is_some, ℕ, List, [], ◌∷◌, Some, cond, bytes_eq, refl}
 use Rattle.std.specs.Ordering.{is_eq, match_ordering}
 use Rattle.std.specs.declared.cmp.Ordering.TheVariants as order
 use Rattle.std.specs.BTreeMap.{insert_entry, is_at}
@@ -11,6 +11,7 @@ use Rattle.std.proofs.lemmas.Slice.Eq.{bytes_eq-Decides}
 use Rattle.std.proofs.Common.{sym, ap, ◌∙◌, arith}
 use Rattle.rule_table.specs.declared.key.EntityKey.{EntityKey}
 use Rattle.rule_table.specs.Order.{key_cmp}
+use Rattle.rule_table.proofs.SameTests.{text-symm}
 use Rattle.pairing_rules.proofs.Order.{keys_total, same-key}
 use Rattle.snapshot_keys.specs.Places.{Places}
 
@@ -49,18 +50,9 @@ put_stands f place k id (e ∷ es) =
     swapped true false c = refl
     swapped false b c = refl
 
-bytes_eq-sym : (a b : List ℕ) → bytes_eq a b ≡ bytes_eq b a
-bytes_eq-sym a b = each (bytes_eq a b) (bytes_eq b a) refl refl
-  where
-    each : (x y : Bool) → bytes_eq a b ≡ x → bytes_eq b a ≡ y → x ≡ y
-    each true true e f = refl
-    each true false e f = let g : bytes_eq b a ≡ true = (bytes_eq-Decides b a).1 (sym ((bytes_eq-Decides a b).0 e)) in cc
-    each false true e f = let g : bytes_eq a b ≡ true = (bytes_eq-Decides a b).1 (sym ((bytes_eq-Decides b a).0 f)) in cc
-    each false false e f = refl
-
 module _ (f place : ℕ) (d : List ℕ) (es : Places) (id : List ℕ) where
   at_first : (n : ℕ) → is_at (key_cmp (first_key f id)) (record { feed = f; id = d; occurrence = n }) ≡ (bytes_eq d id && (0 == n))
-  at_first n = same-key (first_key f id) (record { feed = f; id = d; occurrence = n }) ∙ ap (λ b. b && bytes_eq id d && (0 == n)) (itself f) ∙ ap (λ b. b && (0 == n)) (bytes_eq-sym id d)
+  at_first n = same-key (first_key f id) (record { feed = f; id = d; occurrence = n }) ∙ ap (λ b. b && bytes_eq id d && (0 == n)) (itself f) ∙ ap (λ b. b && (0 == n)) (text-symm id d)
     where
       itself : (x : ℕ) → (x == x) ≡ true
       itself x = grind (arith, nat_tests)
@@ -124,11 +116,3 @@ module _ (d : List ℕ) (has : List ℕ → Bool) (others count : List ℕ → �
         each : (b : Bool) → bytes_eq d id ≡ b → cond b 1 0 + others id ≡ 0
         each true e = let same : has d ≡ has id = ap has ((bytes_eq-Decides d id).0 e) in cc
         each false e = plain (others id) ∙ single id g
-
-pub was_false : (b x : Bool) → x ≡ not b → x ≡ true → b ≡ false
-was_false true x e h = cc
-was_false false x e h = refl
-
-pub was_true : (b x : Bool) → x ≡ not b → x ≡ false → b ≡ true
-was_true true x e h = refl
-was_true false x e h = cc

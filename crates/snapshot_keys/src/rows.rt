@@ -37,7 +37,7 @@ fn add_row(
 ) -> Result<PairIndex, AllocError>
     ensures { IfOk result (λ next. next ≡ put_rows index (ids_rows kind key.now (Some ids))) }
 {
-    let id = key.id.clone(alloc)?;
+    let id = key.id.clone()?;
     let next = index.add(PairRow {
         kind,
         feed: key.feed,

@@ -3,6 +3,7 @@ use Rattle.std.specs.Prelude.{◌≡◌, ℕ, ◌==◌, ◌||◌, Bool, true, fa
 use Rattle.std.specs.List.{list_any}
 use Rattle.std.proofs.Common.{sym, ap, ◌∙◌, subst, append_assoc}
 use Rattle.std.proofs.lemmas.List.{map-append}
+use Rattle.std.proofs.lemmas.Bool.{or_left, or_right}
 use borrow.Author.Tests.{eqb-true}
 use Rattle.feed_values.specs.Schema.{Value}
 use Rattle.feed_values.specs.Messages.{entity}
@@ -11,7 +12,7 @@ use Rattle.rule_table.specs.declared.key.EntityKey.{EntityKey}
 use Rattle.rule_table.specs.Groups.{Each}
 use Rattle.rule_table.specs.GroupLaws.{each_append}
 use Rattle.rule_table.specs.Order.{same_key}
-use Rattle.engine_laws.proofs.Spots.{is_false, key_is, key_self, or_left, or_right}
+use Rattle.engine_laws.proofs.Spots.{is_false, key_is, key_self}
 use Rattle.entity_parts.specs.part_laws.Touched.{is_among}
 use Rattle.entity_index.specs.Changes.{emptied}
 use Rattle.entity_index.specs.Held.{HeldEntities, held_at, parts_at}

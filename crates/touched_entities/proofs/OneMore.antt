@@ -3,6 +3,7 @@ use Rattle.std.specs.Prelude.{◌≡◌, ℕ, zero, suc, ◌+◌, ◌*◌, ◌==
 use Rattle.std.specs.declared.cmp.Ordering.TheVariants as order
 use Rattle.std.proofs.Common.{sym, ap, ◌∙◌, subst, arith, eq-eqb}
 use Rattle.std.proofs.lemmas.List.{drop_more}
+use Rattle.std.proofs.lemmas.Bool.{or_left, or_right}
 use borrow.Author.Tests.{eqb-true}
 use Rattle.feed_values.specs.Schema.{Value}
 use Rattle.feed_values.specs.Messages.{entity}
@@ -18,7 +19,7 @@ use Rattle.engine_laws.specs.Order.{found_cmp}
 use Rattle.engine_laws.specs.Standings.{findings_of, renewed}
 use Rattle.engine_laws.proofs.Since.{findings-renewed}
 use Rattle.engine_laws.proofs.Sorted.{less_other}
-use Rattle.engine_laws.proofs.Spots.{is_false, key_is, key_self, or_left, or_right}
+use Rattle.engine_laws.proofs.Spots.{is_false, key_is, key_self}
 use Rattle.entity_parts.specs.standing_walks.Walked.{IsInOrder}
 use Rattle.entity_parts.specs.part_laws.Touched.{is_among}
 use Rattle.entity_index.specs.Changes.{with_part}

@@ -30,7 +30,7 @@ fn decode_one<D: Ledger>(
     ensures ticked { OnOk result (decodes.new ≡ decodes.old + 1) }
     ensures most { decodes.new ≤ decodes.old + 1 }
 {
-    let key = key.clone(alloc)?;
+    let key = key.clone()?;
     let entity = decode_entity(alloc, kept.entity(place), decodes)?;
     Ok(Incoming {
         key,

@@ -75,7 +75,7 @@ fn put_first(
 {
     let mut told = Told::new(alloc);
     told.put(alloc, old, new)?;
-    entities.insert(key.clone(alloc)?, told)?;
+    entities.insert(key.clone()?, told)?;
     Ok(())
 }
 

@@ -2,6 +2,7 @@
 use Rattle.std.specs.Prelude.{◌≡◌, ℕ, Bool, true, false, cond, ◌&&◌, ◌||◌, List, [], ◌∷◌, Option, Some, None, option_map, refl}
 use Rattle.std.specs.List.{list_any, find}
 use Rattle.std.proofs.Common.{◌∙◌, ap, sym}
+use Rattle.std.proofs.Math.Bool.{or-false, or_assoc}
 use Rattle.feed_values.specs.Schema.{Value}
 use Rattle.feed_values.specs.Messages.{entity}
 use Rattle.feed_values.specs.Snapshot.{entity_of}
@@ -18,7 +19,6 @@ use Rattle.engine_laws.specs.HeldFeeds.{AreApart}
 use Rattle.engine_laws.proofs.Sorted.{apart_rising, entities_rise}
 use Rattle.entity_index.specs.Held.{KeyedValues, entities_before, values_of}
 use Rattle.vehicle_peaks.specs.Rises.{RisesById, rise, gives_rise, has_rise}
-use Rattle.vehicle_peaks.proofs.KeySets.{or-none}
 use Rattle.vehicle_peaks.proofs.Peaks.{rise-greater}
 
 -- ---- what entities raise a vehicle's peak to, one after the other
@@ -67,7 +67,7 @@ module _ (rises : RisesById) (key : EntityKey) where
       found c = option_map (λ (x : Keyed). x.1) (cond c (Some e) (find (λ x. same_key x.0 key) es))
 
       each : (b c : Bool) → same_key key e.0 ≡ b → same_key e.0 key ≡ c → list_any (is_raised_at rises key) (values_of es) ≡ gives_rise rises (payload_under key es) → (b && here || list_any (is_raised_at rises key) (values_of es)) ≡ gives_rise rises (found c)
-      each true true h i ih = ap (λ b. here || b) (none_raised e.0 es (key_is key e.0 h) a.0) ∙ or-none here
+      each true true h i ih = ap (λ b. here || b) (none_raised e.0 es (key_is key e.0 h) a.0) ∙ or-false here
       each false false h i ih = ih
       each true false h i ih = absurd (key_other e.0 key i (sym (key_is key e.0 h)))
       each false true h i ih = absurd (key_other key e.0 h (sym (key_is e.0 key i)))
@@ -89,8 +89,4 @@ none_gives rises (Some p) h = ap (λ r. has_rise r (vehicle_id_of (entity_of p))
 pub tested_more : (test : EntityKey × Value entity → Bool) (e : EntityKey × Value entity) (es left : KeyedValues) (new old all : Bool) → new ≡ (old || test e) → left ≡ e ∷ es → (old || list_any test left) ≡ all
     → (new || list_any test es) ≡ all
 tested_more test e es left new old all n s h =
-    ap (λ b. b || list_any test es) n ∙ assoc old (test e) (list_any test es) ∙ ap (λ xs. old || list_any test xs) (sym s) ∙ h
-  where
-    assoc : (a b c : Bool) → ((a || b) || c) ≡ (a || (b || c))
-    assoc true b c = refl
-    assoc false b c = refl
+    ap (λ b. b || list_any test es) n ∙ or_assoc old (test e) (list_any test es) ∙ ap (λ xs. old || list_any test xs) (sym s) ∙ h

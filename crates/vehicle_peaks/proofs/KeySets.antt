@@ -1,5 +1,5 @@
 -- Keys that are put into a set and taken out of it.
-use Rattle.std.specs.Prelude.{◌≡◌, ◌+◌, ◌<◌, ℕ, Bool, true, false, not, cond, ◌&&◌, ◌||◌, List, [], ◌∷◌, length, get_or, drop, refl}
+use Rattle.std.specs.Prelude.{◌≡◌, ◌+◌, ◌<◌, ℕ, Bool, true, false, not, cond, ◌&&◌, ◌||◌, List, ◌∷◌, length, get_or, drop, refl}
 use Rattle.std.specs.BTreeMap.{is_at}
 use Rattle.std.specs.BTreeSet.{BTreeSet, contains}
 use Rattle.std.specs.Cmp.{eq_by_cmp_equiv}
@@ -9,21 +9,14 @@ use Rattle.std.proofs.lemmas.List.{drop_more}
 use Rattle.rule_table.specs.declared.key.EntityKey.{EntityKey}
 use Rattle.rule_table.specs.Order.{key_cmp, same_key}
 use Rattle.rule_table.proofs.SameKeys.{keys_total, same-key}
+use Rattle.rule_table.proofs.SameTests.{any-same}
 
 at-key : (k key : EntityKey) → is_at (key_cmp k) key ≡ same_key key k
 at-key k key = (eq_by_cmp_equiv keys_total).symm k key ∙ same-key key k
 
-any-same : {A : Type 0} (p q : A → Bool) → ((x : A) → p x ≡ q x) → (xs : List A) → list_any p xs ≡ list_any q xs
-any-same p q h [] = refl
-any-same p q h (x ∷ xs) = ap (λ b. b || list_any p xs) (h x) ∙ ap (λ b. q x || b) (any-same p q h xs)
-
 -- what a set holds is among its keys
 pub in-set : (key : EntityKey) (keys : BTreeSet EntityKey) → contains key_cmp keys key ≡ list_any (same_key key) keys.keys
 in-set key keys = any-same (is_at (key_cmp key)) (same_key key) (same-key key) keys.keys
-
-pub or-none : (b : Bool) → (b || false) ≡ b
-or-none true = refl
-or-none false = refl
 
 -- one key in, if it is to go there
 pub key-put : (k key one : EntityKey) (old : Bool) → one ≡ k → cond (is_at (key_cmp one) key) true old ≡ (old || (same_key key k && true))

@@ -12,6 +12,7 @@ use Rattle.std.proofs.Common.{◌∙◌, ap, sym, arith}
 use Rattle.std.proofs.lemmas.Map.Text.{is_eq-slice_cmp}
 use Rattle.std.proofs.lemmas.Slice.Eq.{bytes_eq-Decides}
 use Rattle.rule_table.specs.Peaks.{PeakMap, greater}
+use Rattle.rule_table.proofs.SameTests.{text-symm}
 use Rattle.history_rules.specs.HeldPeaks.{ids_seen, raised}
 use Rattle.history_rules.proofs.HeldPeaks.{peak_at}
 use Rattle.vehicle_peaks.specs.Rises.{RisesById, rise_of, with_rises}
@@ -31,15 +32,6 @@ none_later : (k : String Global) (es : Entries) → AllByRecursion (λ y. string
 none_later k [] h = refl
 none_later k (e ∷ es) h =
     ap (λ b. cond b (Some e.1) (rise_of (by_id es) (string_bytes k))) (sym (is_eq-slice_cmp (string_bytes k) (string_bytes e.0)) ∙ ap is_eq h.0) ∙ none_later k es h.1
-
-same-truth : (a b : Bool) → (a ≡ true → b ≡ true) → (b ≡ true → a ≡ true) → a ≡ b
-same-truth true b f g = sym (f refl)
-same-truth false true f g = g refl
-same-truth false false f g = refl
-
-bytes-symm : (a b : List ℕ) → bytes_eq a b ≡ bytes_eq b a
-bytes-symm a b =
-    same-truth (bytes_eq a b) (bytes_eq b a) (λ h. (bytes_eq-Decides b a).1 (sym ((bytes_eq-Decides a b).0 h))) (λ h. (bytes_eq-Decides a b).1 (sym ((bytes_eq-Decides b a).0 h)))
 
 -- entries that are left, in order
 abbrev pub AreInOrder : Entries → Type 0
@@ -67,5 +59,5 @@ raised_more feed stamp k id rest old new sorted name is f v = each (feed == f) (
     each : (b : Bool) → new f v ≡ cond (b && bytes_eq (string_bytes k) v) (greater (Some stamp) (old f v)) (old f v)
         → cond b (greater (rise_of (by_id rest) v) (new f v)) (new f v) ≡ cond b (greater (cond (bytes_eq v (string_bytes k)) (Some stamp) (rise_of (by_id rest) v)) (old f v)) (old f v)
     each true h =
-        ap (greater (rise_of (by_id rest) v)) (h ∙ ap (λ b. cond b (greater (Some stamp) (old f v)) (old f v)) (bytes-symm (string_bytes k) v)) ∙ here (bytes_eq v (string_bytes k)) refl
+        ap (greater (rise_of (by_id rest) v)) (h ∙ ap (λ b. cond b (greater (Some stamp) (old f v)) (old f v)) (text-symm (string_bytes k) v)) ∙ here (bytes_eq v (string_bytes k)) refl
     each false h = h

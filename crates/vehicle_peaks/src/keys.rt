@@ -31,16 +31,11 @@ fn has_rise(stamps: &BTreeMap<String, u64>, entity: &Entity) -> bool
 }
 
 /// Puts a key into a set, if it is to go there.
-fn put_if(
-    alloc: Global,
-    keys: &mut BTreeSet<EntityKey>,
-    key: &EntityKey,
-    there: bool,
-) -> Result<(), AllocError>
+fn put_if(keys: &mut BTreeSet<EntityKey>, key: &EntityKey, there: bool) -> Result<(), AllocError>
     ensures { OnOk result ((k : Key) → contains key_cmp keys.new k ≡ (contains key_cmp keys.old k || (same_key k key.now && there))) }
 {
     if there {
-        keys.insert(key.clone(alloc)?)?;
+        keys.insert(key.clone()?)?;
     }
     Ok(())
 }
@@ -113,7 +108,7 @@ pub(crate) fn raised_keys(
         let met = meet(fresh, at, key);
         at = met.at;
         let there = is_raised(stamps, entity, met.is_there);
-        put_if(alloc, &mut keys, key, there)?;
+        put_if(&mut keys, key, there)?;
     }
     Ok(keys)
 }

@@ -1,4 +1,5 @@
 use Rattle.std.proofs.Common.{◌∙◌, ◌&&◌, ◌||◌, ap, arith, not, sym, subst}
+use Rattle.std.proofs.Math.Bool.{or-false}
 use Rattle.std.specs.BTreeMap.{is_at}
 use Rattle.std.specs.BTreeSet.{contains}
 use Rattle.std.specs.List.{list_any}
@@ -12,7 +13,6 @@ use Rattle.entity_index.specs.Held.{KeyedValues, entities_before, held_at, value
 use Rattle.vehicle_peaks.specs.Rises.{has_rise}
 use Rattle.vehicle_peaks.proofs.Beside.{AreLeft, all_left, before_rise, beside_all, is_raised_beside, left_more}
 use Rattle.vehicle_peaks.proofs.Entities.{raised_all, tested_more}
-use Rattle.vehicle_peaks.proofs.KeySets.{or-none}
 use Rattle.vehicle_peaks.proofs.keys.raised_keys.Goals as goal
 
 pub loop-key-init : goal.loop-key-init
@@ -54,5 +54,5 @@ returns c = λ key.
     let fresh = c.args.fresh.now in
     let found = contains key_cmp c.loop-key.keys key in
     let bytes = (held_at c.args.index.now c.args.feed).bytes in
-    sym (ap (λ es. found || list_any (is_raised_beside rises fresh key) es) c.in-None.ensures.steps.0 ∙ or-none found) ∙ c.loop-key.invariant.keys_are key
+    sym (ap (λ es. found || list_any (is_raised_beside rises fresh key) es) c.in-None.ensures.steps.0 ∙ or-false found) ∙ c.loop-key.invariant.keys_are key
     ∙ beside_all rises fresh key (values_of (entities_before c.args.feed bytes)) ∙ ap (λ b. not (list_any (same_key key) fresh) && b) (raised_all rises key c.args.feed bytes)
