@@ -13,6 +13,7 @@ use Rattle.run_rows.specs.follow_engine.Engine.{Engine}
 use Rattle.run_base.specs.Counted.{RoseAtMost, RoseBy, Work, counters, no_work, plus}
 use Rattle.run_base.proofs.Counted.{by_both, most_both, most_first}
 use Rattle.run_rows.specs.declared.row.RowEnd.{RowEnd}
+use Rattle.run_rows.specs.Followed.{lines_text}
 use Rattle.run_rows.proofs.Counted.{same_work}
 use Rattle.run_rows.proofs.RowByRow.{length_take}
 use Rattle.rt_report.proofs.Joined.{or_apart, or_false}
@@ -118,7 +119,7 @@ next_outcome held st i row engine end is at = subst (λ f. IsOutcome (row_outcom
 
 -- where a row's lines can't be written whole, a part of the text stands there
 pub cut : (told : Option Contents) (t : Option Tables) (before now new : Option (List ℕ)) (rows : List ListRow) (engine : Engine) (error : Bool) (i : ℕ) (row : ListRow) (end : RowEnd) → i < length rows → row ≡ get_or rows i row →
-    Done told t before rows engine error now i → IsRowEnd told i row engine end → AppendsPrefix now new end.lines.text.items → IsPart told t before rows new
+    Done told t before rows engine error now i → IsRowEnd told i row engine end → AppendsPrefix now new (lines_text end.lines) → IsPart told t before rows new
 cut None t before now new rows engine error i row end l is done next p = tt
 cut (Some held) t before now new rows engine error i row end l is done next p =
     let o : Outcome = rows_from held (started t) 0 (take i rows) in
@@ -129,7 +130,7 @@ cut (Some held) t before now new rows engine error i row end l is done next p =
 
 -- one row more is done
 pub done_next : (told : Option Contents) (t : Option Tables) (before now new : Option (List ℕ)) (rows : List ListRow) (engine : Engine) (error next_error : Bool) (i : ℕ) (row : ListRow) (end : RowEnd) → i < length rows → row ≡ get_or rows i row →
-    Done told t before rows engine error now i → IsRowEnd told i row engine end → next_error ≡ (error || end.lines.error) → new ≡ append_known now end.lines.text.items →
+    Done told t before rows engine error now i → IsRowEnd told i row engine end → next_error ≡ (error || end.lines.error) → new ≡ append_known now (lines_text end.lines) →
     Done told t before rows end.engine next_error new (i + 1)
 done_next None t before now new rows engine error next_error i row end l is done next e w = tt
 done_next (Some held) t before now new rows engine error next_error i row end l is done next e w =

@@ -22,12 +22,12 @@ use Rattle.engine_laws.proofs.Proved.{no_findings}
 use Rattle.timetable_exchange.specs.Retested.{entities_after, retested}
 use Rattle.run_rows.specs.follow_engine.Retabled.{OpensAndCloses}
 use Rattle.snapshot_lines.specs.Lines.{exchanged, line_of}
-use Rattle.rt_report.specs.declared.lines.Lines.{Lines}
 use Rattle.rt_report.specs.FindingLines.{any_error}
 use Rattle.run_base.specs.Counted.{RoseAtMost, RoseBy, Work, counters}
 use Rattle.run_rows.specs.follow_engine.Engine.{Engine}
 use Rattle.run_rows.specs.follow_engine.Engines.{engine_data}
 use Rattle.run_rows.specs.declared.row.RowEnd.{RowEnd}
+use Rattle.run_rows.specs.declared.row_lines.RowLines.{RowLines}
 use Rattle.run_rows.specs.declared.telling.Telling.TheVariants.{Changes}
 use Rattle.run_rows.specs.Followed.{RowCounts, Takes}
 use Rattle.run_rows.specs.Rows.{accepted_text, changes_text, taken}
@@ -89,7 +89,7 @@ begins engine t stands = record { matches = stands.matches; list_is = none (engi
 
 -- ---- another timetable
 -- what was told of an exchange is its outcome
-pub exchange_gives : (number : ℕ) (u : Tables) (engine later : Engine) (lines : Lines) (entities retests : ℕ) (opens : List Standing) (closes : List Spot) (table : Option Tables) → table ≡ Some u →
+pub exchange_gives : (number : ℕ) (u : Tables) (engine later : Engine) (lines : RowLines) (entities retests : ℕ) (opens : List Standing) (closes : List Spot) (table : Option Tables) → table ≡ Some u →
     ((t : Option Tables) (h : List Snapshot) → Matches (engine_data engine) t h → Matches (engine_data later) table h) →
     ((t : Option Tables) (h : List Snapshot) → Matches (engine_data engine) t h → (engine_data later).list ≡ renewed (engine_data engine).list (length h - 1) (findings table h)) →
     ((t : Option Tables) (h : List Snapshot) → Matches (engine_data engine) t h → OpensAndCloses t table h (engine_data later).list opens closes) →

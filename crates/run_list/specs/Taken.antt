@@ -10,11 +10,12 @@ use Rattle.rule_history.specs.Standing.{Spot, Standing}
 use Rattle.engine_laws.specs.Standings.{Matches}
 use Rattle.snapshot_lines.specs.Lines.{exchanged, line_of}
 use Rattle.rt_report.specs.FindingLines.{any_error}
-use Rattle.rt_report.specs.declared.lines.Lines.{Lines}
 use Rattle.run_rows.specs.follow_engine.Engine.{Engine}
 use Rattle.run_rows.specs.follow_engine.Engines.{engine_data}
 use Rattle.run_base.specs.Counted.{Work}
 use Rattle.run_rows.specs.declared.row.RowEnd.{RowEnd}
+use Rattle.run_rows.specs.declared.row_lines.RowLines.{RowLines}
+use Rattle.run_rows.specs.Followed.{lines_text}
 use Rattle.run_rows.specs.Rows.{changes_text}
 use Rattle.run_list.specs.Listed.{Input, Outcome, State, input_in, row_outcome, timetable_outcome}
 
@@ -26,7 +27,7 @@ pub record IsIn (st : State) (engine : Engine) : Type 0 where
 -- the engine and the lines after a row are its outcome
 pub record IsOutcome (o : Outcome) (end : RowEnd) : Type 0 where
   pub is_in : IsIn o.after end.engine
-  pub text_is : end.lines.text.items ≡ o.text
+  pub text_is : lines_text end.lines ≡ o.text
   pub error_is : end.lines.error ≡ o.error
 
 -- so in each state that the engine was in
@@ -38,8 +39,8 @@ abbrev pub Counts : (Work → Work → Work → Type 0) → (State → Outcome) 
 Counts rose outcome engine old new = (st : State) → IsIn st engine → rose (outcome st).work old new
 
 -- the lines on an accepted timetable: its own, and what it opened and closed
-pub record TellsExchange (number entities retested : ℕ) (opens : List Standing) (closes : List Spot) (lines : Lines) : Type 0 where
-  pub text_is : lines.text.items ≡ line_of (exchanged (record { row = number; entities = entities; retested = retested })) ++ changes_text opens closes
+pub record TellsExchange (number entities retested : ℕ) (opens : List Standing) (closes : List Spot) (lines : RowLines) : Type 0 where
+  pub text_is : lines_text lines ≡ line_of (exchanged (record { row = number; entities = entities; retested = retested })) ++ changes_text opens closes
   pub error_is : lines.error ≡ any_error opens
 
 -- what was found in the folder of a timetable took its place: it is what stands there, where that is told

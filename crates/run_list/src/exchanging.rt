@@ -14,8 +14,7 @@ ghost use Rattle.run_list.specs.Taken.{Gives, IsIn, IsTableEnd, TellsExchange};
 
 use crate::stop::Stop;
 use rt_outside::{Files, Steps};
-use rt_report::Lines;
-use run_rows::{Engine, RowEnd, push_changes};
+use run_rows::{Engine, RowEnd, RowLines};
 use run_timetable::why_refused;
 use snapshot_lines::{Exchanged, exchanged_line, refused_timetable_line};
 use std::alloc::{AllocError, Global};
@@ -24,19 +23,16 @@ use timetable::{LoadFault, Timetable};
 use timetable_exchange::{Exchange, exchange};
 
 // The lines on an accepted timetable, by what it changed.
-fn told(alloc: Global, number: u64, change: &Exchange) -> Result<Lines, AllocError>
-    ensures { IfOk result (TellsExchange number change.now.entities change.now.retested (all_opened change.now.opened) (all_closed change.now.closed)) }
+fn told(alloc: Global, number: u64, change: Exchange) -> Result<RowLines, AllocError>
+    ensures { IfOk result (TellsExchange number change.entities change.retested (all_opened change.opened) (all_closed change.closed)) }
 {
     let it = Exchanged {
         row: number,
         entities: change.entities,
         retested: change.retested,
     };
-    let text = exchanged_line(alloc, &it)?;
-    let mut lines = Lines { text, error: false };
-    let (opened, closed) = (change.opened.as_slice(), change.closed.as_slice());
-    push_changes(alloc, &mut lines, opened, closed)?;
-    Ok(lines)
+    let first = exchanged_line(alloc, &it)?;
+    Ok(RowLines::with_changes(first, change.opened, change.closed))
 }
 
 // Has the engine follow with a timetable that is accepted.
@@ -52,7 +48,7 @@ fn take<T: Ledger>(
     ensures most { (st : State) → IsIn st engine → tests.new ≤ tests.old + 40 * retested st.table (tables_of table) st.history }
 {
     let (engine, change) = exchange(alloc, engine, table, tests)?;
-    let lines = told(alloc, number, &change)?;
+    let lines = told(alloc, number, change)?;
     Ok(RowEnd { engine, lines })
 }
 
@@ -67,8 +63,8 @@ fn keep(
     ensures { IfOk result (Gives (λ st. timetable_outcome st number folder.now (Err fault)) engine) }
 {
     let why = why_refused(alloc, folder, fault)?;
-    let text = refused_timetable_line(alloc, number, why.as_str())?;
-    let lines = Lines { text, error: true };
+    let first = refused_timetable_line(alloc, number, why.as_str())?;
+    let lines = RowLines::alone(alloc, first, true);
     Ok(RowEnd { engine, lines })
 }
 

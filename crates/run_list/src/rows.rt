@@ -12,10 +12,10 @@ ghost use Rattle.run_list.specs.Stops.{IsReadByRows, IsStop};
 ghost use Rattle.run_list.specs.Taken.{IsDone};
 
 use crate::row::take_listed;
-use crate::stop::Stop;
+use crate::stop::{Stop, put_stop};
 use feed_list::ListRow;
-use rt_outside::{Files, Sink, Steps, put_all};
-use run_rows::{Engine, either};
+use rt_outside::{Files, Sink, Steps};
+use run_rows::{Engine, RowEnd, either, put_lines};
 use std::alloc::Global;
 use std::sync::ledger::Ledger;
 use timetable::Timetable;
@@ -49,9 +49,17 @@ pub fn follow_rows<'a, F: Files, S: Sink, D: Ledger, T: Ledger>(
     for (index, row) in rows.iter().enumerate() {
         let number = index as u64;
         let end = take_listed(alloc, engine, number, row, files, decodes, tests)?;
-        put_all(out, &end.lines.text)?;
-        engine = end.engine;
-        error = either(error, end.lines.error);
+        let RowEnd {
+            engine: after,
+            lines,
+        } = end;
+        let told_error = lines.error;
+        match put_lines(alloc, lines, out) {
+            Ok(()) => {}
+            Err(fault) => return Err(put_stop(fault)),
+        }
+        engine = after;
+        error = either(error, told_error);
     }
     Ok(error)
 }

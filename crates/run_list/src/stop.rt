@@ -1,10 +1,10 @@
 //! Why rows aren't followed to their end, and how that is told.
-ghost use Rattle.std.specs.Prelude.{◌≡◌};
+ghost use Rattle.std.specs.Prelude.{◌≡◌, ◌≢◌};
 ghost use Rattle.run_base.specs.Faults.{SaysFault};
+ghost use Rattle.run_base.specs.declared.fault.Fault.TheVariants.{Read};
 ghost use Rattle.run_list.specs.Stops.{fault_of, name_of};
-ghost use Rattle.run_list.specs.declared.stop.Stop.TheVariants.{Write};
 
-use rt_outside::{Failed, Sink};
+use rt_outside::Sink;
 use run_base::{Fault, InputFault, Status, say_fault, say_input_fault};
 
 /// Why rows aren't followed to their end.
@@ -20,11 +20,14 @@ pub enum Stop<'a> {
     Memory,
 }
 
-impl From<Failed> for Stop<'_> {
-    ghost from_gives = { λ _ e. e ≡ Write };
-
-    fn from(_: Failed) -> Self {
-        Stop::Write
+/// What stops where lines couldn't be written.
+pub(crate) fn put_stop<'a>(fault: Fault) -> Stop<'a>
+    requires { fault ≢ Read }
+    ensures { fault_of result ≡ fault }
+{
+    match fault {
+        Fault::Memory => Stop::Memory,
+        Fault::Read | Fault::Write => Stop::Write,
     }
 }
 

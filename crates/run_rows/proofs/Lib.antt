@@ -1,4 +1,5 @@
 pub mod OpenedLines
+pub mod Sent
 pub mod RowByRow
 pub mod Counted
 pub mod Paths

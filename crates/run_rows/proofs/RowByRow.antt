@@ -19,7 +19,7 @@ use Rattle.follow_engine.specs.declared.engine.Engine.{Engine}
 use Rattle.follow_engine.specs.Engines.{engine_data}
 use Rattle.run_rows.specs.declared.row.RowEnd.{RowEnd}
 use Rattle.run_rows.specs.declared.telling.Telling.{Telling}
-use Rattle.run_rows.specs.Followed.{Stands, IsOutcome, Takes, IsRowEnd, IsDone, StandsWithin}
+use Rattle.run_rows.specs.Followed.{Stands, IsOutcome, Takes, IsRowEnd, IsDone, StandsWithin, lines_text}
 use Rattle.rt_report.proofs.Joined.{or_apart, or_false}
 use Rattle.run_rows.specs.Rows.{Outcome, then, no_rows, accepted_text, told_text, told_error, taken, row_outcome, rows_from}
 use Rattle.run_base.specs.Found.{bytes_in}
@@ -129,7 +129,7 @@ next_outcome held telling t h i row engine end is stands = subst (λ f. IsOutcom
 
 -- where a row's lines can't be written whole, a part of the text stands there
 pub cut : (told : Option Contents) (telling : Telling) (t : Option Tables) (before now new : Option (List ℕ)) (rows : List SnapshotRow) (engine : Engine) (error : Bool) (i : ℕ) (row : SnapshotRow) (end : RowEnd) → i < length rows → row ≡ get_or rows i row →
-    Done told telling t before rows engine error now i → IsRowEnd told telling i row engine end → AppendsPrefix now new end.lines.text.items → IsPart told telling t before rows new
+    Done told telling t before rows engine error now i → IsRowEnd told telling i row engine end → AppendsPrefix now new (lines_text end.lines) → IsPart told telling t before rows new
 cut None telling t before now new rows engine error i row end l is done next p = tt
 cut (Some held) telling t before now new rows engine error i row end l is done next p =
     let o : Outcome = rows_from telling t held [] 0 (take i rows) in
@@ -140,7 +140,7 @@ cut (Some held) telling t before now new rows engine error i row end l is done n
 
 -- one row more is done
 pub done_next : (told : Option Contents) (telling : Telling) (t : Option Tables) (before now new : Option (List ℕ)) (rows : List SnapshotRow) (engine : Engine) (error next_error : Bool) (i : ℕ) (row : SnapshotRow) (end : RowEnd) → i < length rows → row ≡ get_or rows i row →
-    Done told telling t before rows engine error now i → IsRowEnd told telling i row engine end → next_error ≡ (error || end.lines.error) → new ≡ append_known now end.lines.text.items →
+    Done told telling t before rows engine error now i → IsRowEnd told telling i row engine end → next_error ≡ (error || end.lines.error) → new ≡ append_known now (lines_text end.lines) →
     Done told telling t before rows end.engine next_error new (i + 1)
 done_next None telling t before now new rows engine error next_error i row end l is done next e w = tt
 done_next (Some held) telling t before now new rows engine error next_error i row end l is done next e w =

@@ -13,30 +13,35 @@ use Rattle.engine_laws.specs.Delta.{Delta, IsDelta}
 use Rattle.engine_laws.specs.Standings.{Matches, StandsFor, renewed}
 use Rattle.snapshot_lines.specs.Lines.{line_of, refused}
 use Rattle.follow_engine.specs.declared.engine.Engine.{Engine}
+use Rattle.follow_engine.specs.Deltas.{all_closed, all_opened}
 use Rattle.follow_engine.specs.Engines.{engine_data}
 use Rattle.run_base.specs.declared.fault.Fault.TheVariants as fault
 use Rattle.run_base.specs.Counted.{Work}
-use Rattle.rt_report.specs.declared.lines.Lines.{Lines}
 use Rattle.run_rows.specs.declared.row.RowEnd.{RowEnd}
+use Rattle.run_rows.specs.declared.row_lines.RowLines.{RowLines}
 use Rattle.run_rows.specs.declared.rows.RowFault.{RowFault}
 use Rattle.run_rows.specs.declared.telling.Telling.{Telling}
 use Rattle.run_rows.specs.Counted.{row_work}
-use Rattle.run_rows.specs.Rows.{Outcome, accepted_text, taken, told_text, told_error}
+use Rattle.run_rows.specs.Rows.{Outcome, accepted_text, changes_text, taken, told_text, told_error}
 use Rattle.run_base.specs.Found.{bytes_in}
 
 -- an engine stands for a history with a timetable
 abbrev pub Stands : Option Tables → Engine → List Snapshot → Type 0
 Stands t engine h = StandsFor (engine_data engine) t h
 
+-- the lines of a row: the first one, and behind it those of what opened and closed
+abbrev pub lines_text : RowLines → List ℕ
+lines_text lines = lines.first.items ++ changes_text (all_opened lines.opened) (all_closed lines.closed)
+
 -- the lines on an accepted snapshot
-pub record AreTold (telling : Telling) (number : ℕ) (row : SnapshotRow) (d : Delta) (lines : Lines) : Type 0 where
-  pub text_is : lines.text.items ≡ accepted_text number row d ++ told_text telling d
+pub record AreTold (telling : Telling) (number : ℕ) (row : SnapshotRow) (d : Delta) (lines : RowLines) : Type 0 where
+  pub text_is : lines_text lines ≡ accepted_text number row d ++ told_text telling d
   pub error_is : lines.error ≡ told_error telling d
 
 -- the engine and the lines after a row are its outcome
 pub record IsOutcome (t : Option Tables) (o : Outcome) (end : RowEnd) : Type 0 where
   pub stands_for : Stands t end.engine o.after
-  pub text_is : end.lines.text.items ≡ o.text
+  pub text_is : lines_text end.lines ≡ o.text
   pub error_is : end.lines.error ≡ o.error
 
 -- An accepted snapshot was put at the end of each history that the engine matched or stood for; its numbers go on, and the lines are on what it
@@ -52,7 +57,7 @@ pub record TakesIn (telling : Telling) (number : ℕ) (row : SnapshotRow) (s : S
 -- a refused one is a line, and leaves the engine as it is
 pub record TakesNot (number : ℕ) (why : Refusal) (engine : Engine) (end : RowEnd) : Type 0 where
   pub stays : end.engine ≡ engine
-  pub text_is : end.lines.text.items ≡ line_of (refused number why)
+  pub text_is : lines_text end.lines ≡ line_of (refused number why)
   pub error_is : end.lines.error ≡ true
 
 -- what was found in the file of a row was taken by an engine

@@ -4,21 +4,24 @@
 //! of files, behind whose lines a command writes an ending of its own.
 //!
 //! - `telling`: what is told of an accepted snapshot
-//! - `changes`: the lines of what a snapshot opened and closed
+//! - `row_lines`: the lines of a row, those of what opened and closed not spelled yet
+//! - `sending`: they are written, piece by piece
 //! - `row`: one row's snapshot, put into the engine
 //! - `rows`: all of them
 //! - `files`: the snapshots of files, each of a feed of its own
 #![tactic(auto)]
 
-mod changes;
 mod files;
 mod row;
+mod row_lines;
 mod rows;
+mod sending;
 mod telling;
 
-pub use changes::push_changes;
 pub use files::take_files;
 pub use follow_engine::{Delta, Engine};
 pub use row::{RowEnd, take_row};
+pub use row_lines::RowLines;
 pub use rows::{RowFault, RowsEnd, either, follow_rows, say_row_fault};
+pub use sending::put_lines;
 pub use telling::Telling;

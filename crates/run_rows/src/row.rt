@@ -9,14 +9,14 @@ ghost use Rattle.run_base.specs.Counted.{RoseAtMost, RoseBy, counters};
 ghost use Rattle.run_base.specs.Found.{bytes_in, kept_bytes};
 ghost use Rattle.run_rows.specs.Followed.{AreTold, IsRowEnd, RowCounts, Takes};
 
-use crate::changes::push_changes;
+use crate::row_lines::RowLines;
 use crate::telling::Telling;
 use feed_codec::Refusal;
 use feed_list::SnapshotRow;
 use feed_stream::Kept;
 use follow_engine::{Delta, Engine};
 use rt_outside::{Files, Steps};
-use rt_report::{Accepted, Lines, accepted_line, refused_line};
+use rt_report::{Accepted, accepted_line, refused_line};
 use run_base::{Fault, read_kept};
 use std::alloc::{AllocError, Global};
 use std::sync::ledger::Ledger;
@@ -25,7 +25,7 @@ use std::sync::ledger::Ledger;
 #[derive(Drop)]
 pub struct RowEnd {
     pub engine: Engine,
-    pub lines: Lines,
+    pub lines: RowLines,
 }
 
 // The lines on an accepted snapshot, by what it changed.
@@ -34,9 +34,9 @@ fn told(
     telling: Telling,
     number: u64,
     row: &SnapshotRow,
-    delta: &Delta,
-) -> Result<Lines, AllocError>
-    ensures { IfOk result (AreTold telling number row.now (delta_value delta.now)) }
+    delta: Delta,
+) -> Result<RowLines, AllocError>
+    ensures { IfOk result (AreTold telling number row.now (delta_value delta)) }
 {
     let it = Accepted {
         feed: row.feed,
@@ -49,16 +49,11 @@ fn told(
         bounded: delta.bounded,
         peaked: delta.peaked,
     };
-    let text = accepted_line(alloc, &it)?;
-    let mut lines = Lines { text, error: false };
+    let first = accepted_line(alloc, &it)?;
     match telling {
-        Telling::Counts => {}
-        Telling::Changes => {
-            let (opened, closed) = (delta.opened.as_slice(), delta.closed.as_slice());
-            push_changes(alloc, &mut lines, opened, closed)?
-        }
+        Telling::Counts => Ok(RowLines::alone(alloc, first, false)),
+        Telling::Changes => Ok(RowLines::with_changes(first, delta.opened, delta.closed)),
     }
-    Ok(lines)
 }
 
 // Takes a snapshot: one that is accepted is put at the end of the engine's history, and one that is refused leaves it as it
@@ -82,12 +77,12 @@ fn take<D: Ledger, T: Ledger>(
     match found {
         Ok(kept) => {
             let (engine, delta) = engine.apply(row.feed, row.moment, kept, decodes, tests)?;
-            let lines = told(alloc, telling, number, row, &delta)?;
+            let lines = told(alloc, telling, number, row, delta)?;
             Ok(RowEnd { engine, lines })
         }
         Err(refusal) => {
-            let text = refused_line(alloc, number, &refusal)?;
-            let lines = Lines { text, error: true };
+            let first = refused_line(alloc, number, &refusal)?;
+            let lines = RowLines::alone(alloc, first, true);
             Ok(RowEnd { engine, lines })
         }
     }

@@ -10,11 +10,12 @@ ghost use Rattle.run_rows.specs.Counted.{outcome_work};
 ghost use Rattle.run_rows.specs.Followed.{IsDone, IsRowFault};
 ghost use Rattle.run_rows.specs.Rows.{AreWithinLimits, all_rows};
 
-use crate::row::take_row;
+use crate::row::{RowEnd, take_row};
+use crate::sending::put_lines;
 use crate::telling::Telling;
 use feed_list::SnapshotRow;
 use follow_engine::Engine;
-use rt_outside::{Files, Sink, Steps, put_all};
+use rt_outside::{Files, Sink, Steps};
 use run_base::{Fault, Status, say_fault};
 use std::alloc::Global;
 use std::sync::ledger::Ledger;
@@ -67,15 +68,17 @@ pub fn follow_rows<F: Files, S: Sink, D: Ledger, T: Ledger>(
             Ok(end) => end,
             Err(fault) => return Err(RowFault { row: index, fault }),
         };
-        match put_all(out, &end.lines.text) {
+        let RowEnd {
+            engine: after,
+            lines,
+        } = end;
+        let told_error = lines.error;
+        match put_lines(alloc, lines, out) {
             Ok(()) => {}
-            Err(failed) => {
-                let fault = Fault::from(failed);
-                return Err(RowFault { row: index, fault });
-            }
+            Err(fault) => return Err(RowFault { row: index, fault }),
         }
-        engine = end.engine;
-        error = either(error, end.lines.error);
+        engine = after;
+        error = either(error, told_error);
     }
     Ok(RowsEnd { engine, error })
 }

@@ -1,6 +1,4 @@
-use Rattle.std.proofs.Common.{◌∙◌, ap, subst, arith, rules, sym, refl, [], IfSome}
-use Rattle.std.specs.Io.KnownBytes.{append_known}
-use Rattle.rt_outside.specs.Sink.{AppendsPrefix}
+use Rattle.std.proofs.Common.{◌∙◌, subst, arith, rules, sym, refl, [], IfSome}
 use Rattle.rt_outside.specs.Store.{contents_told}
 use Rattle.rt_outside.proofs.Appends.{append_known-nil}
 use Rattle.rule_history.specs.Answered.{tables_of}
@@ -36,14 +34,14 @@ loop-index-preserved g c =
     record {
       told = c.take_listed.ensures.contents ∙ c.loop-index.invariant.told;
       within = within_next told c.loop-index.index c.loop-index.index row c.loop-index.engine end c.loop-index.invariant.within is;
-      done = done_next told t (g.S.Sink.state c.args.out.now).written (g.S.Sink.state c.loop-index.out).written (g.S.Sink.state c.put_all.new.sink).written c.args.rows.now c.loop-index.engine c.loop-index.error c.either-error.result
-          c.loop-index.index row end c.loop-index-test.true c.index-rows-index.is c.loop-index.invariant.done is c.either-error.ensures (c.in_ok-put_all.ensures.ok ∙ ap (append_known (g.S.Sink.state c.loop-index.out).written) c.deref.ensures.value);
+      done = done_next told t (g.S.Sink.state c.args.out.now).written (g.S.Sink.state c.loop-index.out).written (g.S.Sink.state c.put_lines.new.out).written c.args.rows.now c.loop-index.engine c.loop-index.error c.either-error.result
+          c.loop-index.index row end c.loop-index-test.true c.index-rows-index.is c.loop-index.invariant.done is c.either-error.ensures c.in-Ok.ensures.whole;
       counted = counted_next t c.args.rows.now (counters c.args.decodes.now c.args.tests.now) (g.S.Sink.state c.args.out.now).written (g.S.Sink.state c.loop-index.out).written c.loop-index.engine c.loop-index.error
           c.loop-index.index row c.loop-index-test.true c.index-rows-index.is (counters c.loop-index.decodes c.loop-index.tests) (counters c.take_listed.new.decodes c.take_listed.new.tests) told c.loop-index.invariant.done
           c.loop-index.invariant.counted (subst (λ told. IfSome told (λ held. Counts RoseBy (λ st. row_outcome st c.loop-index.index row (input_in row held)) c.loop-index.engine (counters c.loop-index.decodes c.loop-index.tests) (counters c.take_listed.new.decodes c.take_listed.new.tests)))
           c.loop-index.invariant.told c.in_ok-end.ensures.counted);
       read_later = omega (arith, c.loop-index.invariant.read_later, c.take_listed.ensures.later);
-      write_later = omega (arith, c.loop-index.invariant.write_later, c.in_ok-put_all.ensures.cause.later);
+      write_later = omega (arith, c.loop-index.invariant.write_later, c.in-Ok.ensures.later);
     }
 
 -- the row can't be taken
@@ -61,18 +59,24 @@ returns-in_err-end-clause-most g c =
     c.loop-index.invariant.told c.take_listed.ensures.most)
 
 -- its lines can't be written
-pub returns-in_err-put_all-clause-text : goal.returns-in_err-put_all-clause-text
-returns-in_err-put_all-clause-text g c =
+pub returns-in-Err-clause-text : goal.returns-in-Err-clause-text
+returns-in-Err-clause-text g c =
     let told = contents_told (g.F.Files.state c.args.files.now).told in
     let row = c.index-rows-index.result in
     let end = c.in_ok-end.end in
-    cut told (tables_of c.args.table) (g.S.Sink.state c.args.out.now).written (g.S.Sink.state c.loop-index.out).written (g.S.Sink.state c.put_all.new.sink).written c.args.rows.now c.loop-index.engine c.loop-index.error
+    cut told (tables_of c.args.table) (g.S.Sink.state c.args.out.now).written (g.S.Sink.state c.loop-index.out).written (g.S.Sink.state c.put_lines.new.out).written c.args.rows.now c.loop-index.engine c.loop-index.error
     c.loop-index.index row end c.loop-index-test.true c.index-rows-index.is c.loop-index.invariant.done
     (subst (λ told. IsRowEnd told c.loop-index.index row c.loop-index.engine end) c.loop-index.invariant.told c.in_ok-end.ensures.outcome)
-    (subst (AppendsPrefix (g.S.Sink.state c.loop-index.out).written (g.S.Sink.state c.put_all.new.sink).written) c.deref.ensures.value c.in_err-put_all.ensures.err)
+    c.in-Err.ensures.part
 
-pub returns-in_err-put_all-clause-most : goal.returns-in_err-put_all-clause-most
-returns-in_err-put_all-clause-most g c =
+pub returns-in-Err-clause-whole : goal.returns-in-Err-clause-whole
+returns-in-Err-clause-whole g c = all (contents_told (g.F.Files.state c.args.files.now).told) _ (λ held. tt)
+
+pub returns-in-Err-clause-counted : goal.returns-in-Err-clause-counted
+returns-in-Err-clause-counted g c = all (contents_told (g.F.Files.state c.args.files.now).told) _ (λ held. tt)
+
+pub returns-in-Err-clause-most : goal.returns-in-Err-clause-most
+returns-in-Err-clause-most g c =
     most_next (tables_of c.args.table) c.args.rows.now (counters c.args.decodes.now c.args.tests.now) (g.S.Sink.state c.args.out.now).written (g.S.Sink.state c.loop-index.out).written c.loop-index.engine c.loop-index.error
     c.loop-index.index c.index-rows-index.result c.loop-index-test.true c.index-rows-index.is (counters c.loop-index.decodes c.loop-index.tests) (counters c.take_listed.new.decodes c.take_listed.new.tests)
     (contents_told (g.F.Files.state c.args.files.now).told) c.loop-index.invariant.done c.loop-index.invariant.counted
