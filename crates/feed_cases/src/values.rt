@@ -29,18 +29,12 @@ fn say_formed(alloc: Global, header: FeedHeader, answer: &mut Vec<u8>) -> Result
     say_whether(answer, well_formed(&message))
 }
 
-fn raw(alloc: Global, bytes: &[u8]) -> Result<Raw, AllocError> {
-    let mut raw = Raw::new(alloc);
-    raw.push(bytes)?;
-    Ok(raw)
-}
-
 fn unknown(alloc: Global, number: u32, value: RawValue<'_>) -> Result<Unknown, AllocError> {
     let value = match value {
         RawValue::Varint(n) => UnknownValue::Varint(n),
         RawValue::Fixed64(n) => UnknownValue::Fixed64(n),
-        RawValue::Len(payload) => UnknownValue::Len(raw(alloc, payload)?),
-        RawValue::Group(group) => UnknownValue::Group(raw(alloc, group)?),
+        RawValue::Len(payload) => UnknownValue::Len(Raw::of(alloc, payload)?),
+        RawValue::Group(group) => UnknownValue::Group(Raw::of(alloc, group)?),
         RawValue::Fixed32(n) => UnknownValue::Fixed32(n),
     };
     Ok(Unknown { number, value })
@@ -77,20 +71,14 @@ fn say_header_formed(
     say_formed(alloc, header, answer)
 }
 
-fn text(alloc: Global, content: &str) -> Result<Text, AllocError> {
-    let mut text = Text::new(alloc);
-    text.push(content)?;
-    Ok(text)
-}
-
 // A copy of a text, and how another text stands to it.
 fn say_copied_text(
     alloc: Global,
     words: &[String],
     answer: &mut Vec<u8>,
 ) -> Result<(), AllocError> {
-    let copy = text(alloc, word(words, 1))?.clone(alloc)?;
-    let other = text(alloc, word(words, 2))?;
+    let copy = Text::of(alloc, word(words, 1))?.clone(alloc)?;
+    let other = Text::of(alloc, word(words, 2))?;
     say(answer, copy.as_str())?;
     let order = if copy == other {
         "equal to the other"

@@ -9,7 +9,7 @@ use crate::message::Message;
 use crate::refusal::Refusal;
 use crate::stopped::Stopped;
 use crate::taking::{take_enum_or, take_text, take_u32};
-use feed_values::{Items, TripDescriptor, Unknown, VehicleDescriptor};
+use feed_values::{Blank, Items, TripDescriptor, Unknown, VehicleDescriptor};
 use rt_wire::RawField;
 use std::alloc::{AllocError, Global};
 
@@ -30,15 +30,7 @@ impl Message for TripDescriptor {
     ghost value = { trip_descriptor_value };
 
     fn empty(alloc: Global) -> TripDescriptor {
-        TripDescriptor {
-            trip_id: None,
-            start_time: None,
-            start_date: None,
-            schedule_relationship: None,
-            route_id: None,
-            direction_id: None,
-            unknown: Items::new(alloc),
-        }
+        TripDescriptor::blank(alloc)
     }
 
     fn merge_slot(&mut self, alloc: Global, field: &RawField<'_>) -> Result<bool, Stopped> {

@@ -6,11 +6,10 @@ ghost use Rattle.std.specs.Prelude.{◌≡◌, ◌≤◌, ◌<◌, ◌^◌, ◌+
 ghost use Rattle.std.specs.Option.{option_map};
 ghost use Rattle.std.specs.List.{flat_map, AllByRecursion};
 ghost use Rattle.rt_wire.specs.Fields.{Len};
-ghost use Rattle.rt_wire.specs.Placed.{value_of};
 ghost use Rattle.rt_wire.specs.Writing.{spell};
 ghost use Rattle.feed_values.specs.Schema as schema;
 ghost use Rattle.feed_values.specs.Schema.{Schema};
-ghost use Rattle.feed_values.specs.Views.{natural, truth, unknown_field, unknown_value};
+ghost use Rattle.feed_values.specs.Views.{natural, truth, unknown_field};
 ghost use Rattle.feed_values.specs.WellFormed.{IsWellFormed, IsUnknown};
 ghost use Rattle.feed_values.specs.Canonical.{canonical, spelled_slot, where_held, scalar_value};
 
@@ -23,7 +22,7 @@ mod trip_update;
 mod vehicle_position;
 
 use crate::message::Message;
-use feed_values::{Apart, Blank, Boxed, Items, Text, Unknown, UnknownValue};
+use feed_values::{Apart, Blank, Boxed, Items, Text, Unknown};
 use rt_wire::{RawValue, put_field};
 use std::alloc::{AllocError, Global};
 
@@ -41,10 +40,7 @@ pub fn put_u32(out: &mut Vec<u8>, number: u32, held: Option<u32>) -> Result<(), 
     ensures { OnOk result (out.new.items ≡ out.old.items
         ++ where_held (λ z. spelled_slot number (scalar_value schema.U32 z)) (natural held)) }
 {
-    match held {
-        Some(n) => put_field(out, number, RawValue::Varint(u64::from(n))),
-        None => Ok(()),
-    }
+    put_u64(out, number, held.map(u64::from))
 }
 
 /// Which numbers an enum recognises makes no difference to how one is written.
@@ -63,11 +59,7 @@ pub fn put_bool(out: &mut Vec<u8>, number: u32, held: Option<bool>) -> Result<()
     ensures { OnOk result (out.new.items ≡ out.old.items
         ++ where_held (λ z. spelled_slot number (scalar_value schema.Bool z)) (truth held)) }
 {
-    match held {
-        Some(true) => put_field(out, number, RawValue::Varint(1)),
-        Some(false) => put_field(out, number, RawValue::Varint(0)),
-        None => Ok(()),
-    }
+    put_u64(out, number, held.map(u64::from))
 }
 
 pub fn put_u64(out: &mut Vec<u8>, number: u32, held: Option<u64>) -> Result<(), AllocError>
@@ -87,10 +79,7 @@ pub fn put_i32(out: &mut Vec<u8>, number: u32, held: Option<i32>) -> Result<(), 
     requires small { number < 2 ^ 29 }
     ensures { OnOk result (out.new.items ≡ out.old.items ++ where_held (λ z. spelled_slot number (scalar_value schema.I32 z)) held) }
 {
-    match held {
-        Some(n) => put_field(out, number, RawValue::Varint(i64::from(n).cast_unsigned())),
-        None => Ok(()),
-    }
+    put_i64(out, number, held.map(i64::from))
 }
 
 pub fn put_i64(out: &mut Vec<u8>, number: u32, held: Option<i64>) -> Result<(), AllocError>
@@ -277,25 +266,13 @@ pub fn put_repeated<M: Encode>(
     Ok(())
 }
 
-fn raw_value(value: &UnknownValue) -> RawValue<'_>
-    ensures { value_of result ≡ unknown_value value.now }
-{
-    match value {
-        UnknownValue::Varint(n) => RawValue::Varint(*n),
-        UnknownValue::Fixed64(n) => RawValue::Fixed64(*n),
-        UnknownValue::Len(payload) => RawValue::Len(payload.as_slice()),
-        UnknownValue::Group(group) => RawValue::Group(group.as_slice()),
-        UnknownValue::Fixed32(n) => RawValue::Fixed32(*n),
-    }
-}
-
 /// Appends the unknown fields of a message of kind `M`.
 pub fn put_unknown<M: Message>(out: &mut Vec<u8>, held: &Items<Unknown>) -> Result<(), AllocError>
     requires { AllByRecursion (IsUnknown M.schema) (map unknown_field held.now) }
     ensures { OnOk result (out.new.items ≡ out.old.items ++ flat_map spell (map unknown_field held.now)) }
 {
     for unknown in held.as_slice() {
-        put_field(out, unknown.number, raw_value(&unknown.value))?;
+        put_field(out, unknown.number, unknown.value.wire_value())?;
     }
     Ok(())
 }

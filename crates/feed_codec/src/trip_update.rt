@@ -38,15 +38,7 @@ impl Message for TripUpdate {
     ghost value = { trip_update_value };
 
     fn empty(alloc: Global) -> TripUpdate {
-        TripUpdate {
-            trip: TripDescriptor::empty(alloc),
-            stop_time_update: Items::new(alloc),
-            vehicle: None,
-            timestamp: None,
-            delay: None,
-            trip_properties: None,
-            unknown: Items::new(alloc),
-        }
+        TripUpdate::blank(alloc)
     }
 
     fn with_room(alloc: Global, payload: &[u8]) -> Result<TripUpdate, AllocError> {
@@ -95,15 +87,7 @@ impl Message for StopTimeUpdate {
     ghost value = { stop_time_update_value };
 
     fn empty(alloc: Global) -> StopTimeUpdate {
-        StopTimeUpdate {
-            stop_sequence: None,
-            arrival: None,
-            departure: None,
-            stop_id: None,
-            schedule_relationship: None,
-            stop_time_properties: None,
-            unknown: Items::new(alloc),
-        }
+        StopTimeUpdate::blank(alloc)
     }
 
     #[tactic(auto, unfolding(crate::specs::Merging::with_fields))]

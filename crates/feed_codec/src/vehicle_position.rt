@@ -36,18 +36,7 @@ impl Message for VehiclePosition {
     ghost value = { vehicle_position_value };
 
     fn empty(alloc: Global) -> VehiclePosition {
-        VehiclePosition {
-            trip: None,
-            position: None,
-            current_stop_sequence: None,
-            current_status: None,
-            timestamp: None,
-            congestion_level: None,
-            stop_id: None,
-            vehicle: None,
-            occupancy_status: None,
-            unknown: Items::new(alloc),
-        }
+        VehiclePosition::blank(alloc)
     }
 
     #[tactic(auto, unfolding(crate::specs::Merging::with_fields))]

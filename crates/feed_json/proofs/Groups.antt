@@ -1,11 +1,8 @@
 -- Bytes are those of a group exactly where they are read as one between tags.
-use Rattle.std.proofs.Common.{◌≡◌, ℕ, zero, suc, leb, ◌<◌, List, [], ◌∷◌, ◌++◌, map, Option, Some, None, Result, Ok, Err, Bool, true, false, refl, sym, ap, subst, arith}
-use Rattle.std.specs.Prelude.{slice_index}
+use Rattle.std.proofs.Common.{◌≡◌, ℕ, zero, suc, ◌<◌, List, [], ◌∷◌, ◌++◌, map, Option, Some, None, Result, Ok, Err, Bool, true, false, refl, sym, ap, subst, arith}
+use Rattle.std.specs.Prelude.{slice_index, IsTrue, ◌↔◌}
 use Rattle.std.proofs.lemmas.List.{append-nil, get_or_past}
-use Rattle.std.proofs.lemmas.Bool.{leb-true, le-leb}
 use Rattle.std.proofs.lemmas.Slice.Eq.{bytes_eq-Decides}
-use Rattle.rt_wire.specs.Depth.{IsGroupDepth, NoFieldList}
-use Rattle.rt_wire.proofs.Sound.{joins_more, spells_more}
 use Rattle.rt_wire.specs.declared.fault.WireFault.{WireFault}
 use Rattle.rt_wire.specs.Fields.{WireField, WireValue, Varint, Fixed64, Len, Group, Fixed32, Joins, Spells, IsBytes}
 use Rattle.rt_wire.specs.Placed.{PlacedField, placed_fields}
@@ -90,22 +87,12 @@ from_parts group (Err f ∷ parts) ok e one = cc one
 pub group_whole : (group : List ℕ) → IsBytes group → is_whole group ≡ true → GroupIsWhole (Group group)
 group_whole group ok e = from_parts group (placed_fields (between_tags group)) ok refl e
 
--- ---- by depth
-
--- whether a depth is one of at most 99
-pub by_depth : (group : List ℕ) (d : ℕ) → IsBytes group → IsGroupDepth group d → leb d 99 ≡ is_whole group
-by_depth group d ok depth = by_case (leb d 99) (is_whole group) refl refl
+-- whether bytes are those of a group, told either way
+pub by_whole : (group : List ℕ) (b : Bool) → IsBytes group → IsTrue b ↔ GroupIsWhole (Group group) → b ≡ is_whole group
+by_whole group b ok same = by_case b (is_whole group) refl refl
   where
-    by_case : (a b : Bool) → leb d 99 ≡ a → is_whole group ≡ b → a ≡ b
-    by_case true true ea eb = refl
-    by_case false false ea eb = refl
-    by_case true false ea eb = cc (whole_group group (writing_is_exact.group group d depth (leb-true d 99 ea)))
-    by_case false true ea eb = cc (le-leb d 99 (writing_is_exact.depth group d depth (group_whole group ok eb)))
-
-pub by_none : (group : List ℕ) → IsBytes group → NoFieldList group → false ≡ is_whole group
-by_none group ok none = by_case (is_whole group) refl
-  where
-    by_case : (b : Bool) → is_whole group ≡ b → false ≡ b
-    by_case false e = refl
-    by_case true e = let whole =
-        group_whole group ok e in absurd (none whole.0 (joins_more (Spells 99) (Spells 100) whole.0 group (λ r b. spells_more 99 100 r b (omega arith)) whole.1))
+    by_case : (x y : Bool) → b ≡ x → is_whole group ≡ y → x ≡ y
+    by_case true true ex ey = refl
+    by_case false false ex ey = refl
+    by_case true false ex ey = cc (whole_group group (same.0 ex))
+    by_case false true ex ey = cc (same.1 (group_whole group ok ey))

@@ -25,26 +25,10 @@ use feed_codec::{
     check_stop_time_properties, check_trip_properties, decode_stop_time_properties,
     decode_trip_properties,
 };
-use feed_values::{
-    Blank, Items, Slots, StopTimeEvent, StopTimeUpdate, TripDescriptor, TripUpdate, Unknown,
-    UnknownValue,
-};
+use feed_values::{Items, Slots, StopTimeEvent, StopTimeUpdate, TripUpdate, Unknown, UnknownValue};
 use serde_json::{Map, Value};
 use std::alloc::{AllocError, Global};
 use std::mem;
-
-/// An update of which nothing was read.
-fn empty(alloc: Global) -> TripUpdate {
-    TripUpdate {
-        trip: TripDescriptor::blank(alloc),
-        stop_time_update: Items::new(alloc),
-        vehicle: None,
-        timestamp: None,
-        delay: None,
-        trip_properties: None,
-        unknown: Items::new(alloc),
-    }
-}
 
 /// Reads each slot to where it stands, with all items of `unknown`, so that nothing is owned where one has a fault.
 fn fill(alloc: Global, value: &Value, message: &mut TripUpdate) -> Result<(), JsonFault>
@@ -116,7 +100,7 @@ impl Form for TripUpdate {
     }
 
     fn read(alloc: Global, value: &Value) -> Result<TripUpdate, JsonFault> {
-        let mut message = Box::new(alloc, empty(alloc)).map_err(AllocError::from)?;
+        let mut message = Box::new(alloc, TripUpdate::blank(alloc)).map_err(AllocError::from)?;
         fill(alloc, value, &mut message)?;
         Ok(settle(alloc, Box::into_inner(message))?)
     }
@@ -129,19 +113,6 @@ impl Form for TripUpdate {
         put_i32(alloc, members, "delay", self.delay)?;
         put_optional(alloc, members, "trip_properties", &self.trip_properties)?;
         put_unknown(alloc, members, &self.unknown)
-    }
-}
-
-/// An update of a stop of which nothing was read.
-fn empty_stop(alloc: Global) -> StopTimeUpdate {
-    StopTimeUpdate {
-        stop_sequence: None,
-        arrival: None,
-        departure: None,
-        stop_id: None,
-        schedule_relationship: None,
-        stop_time_properties: None,
-        unknown: Items::new(alloc),
     }
 }
 
@@ -215,7 +186,7 @@ impl Form for StopTimeUpdate {
     }
 
     fn read(alloc: Global, value: &Value) -> Result<StopTimeUpdate, JsonFault> {
-        let mut update = empty_stop(alloc);
+        let mut update = StopTimeUpdate::blank(alloc);
         fill_stop(alloc, value, &mut update)?;
         Ok(settle(alloc, update)?)
     }

@@ -26,7 +26,7 @@ use crate::reading::{natural_from, u32_from};
 use crate::writing::put_array;
 use feed_values::{Items, Raw, Slots, Unknown, UnknownValue};
 use hex::FromHexError;
-use rt_wire::group_depth;
+use rt_wire::{is_whole, wire_type};
 use serde_json::{Map, Value, json};
 use std::alloc::{AllocError, Global};
 
@@ -57,17 +57,6 @@ fn bytes_from(alloc: Global, value: &Value) -> Result<Raw, JsonFault>
         Ok(bytes) => Ok(raw_of(alloc, bytes.as_slice())?),
         Err(FromHexError::OutOfMemory) => Err(JsonFault::Memory),
         Err(_) => Err(out_of_range(alloc)),
-    }
-}
-
-/// Whether bytes are those between the tags of a group: fields that nest at most 99 further groups.
-fn is_whole(group: &[u8]) -> bool
-    ensures value { result ≡ is_whole group.now }
-    ensures whole { IsTrue result → GroupIsWhole (Group group.now) }
-{
-    match group_depth(group) {
-        Some(depth) => depth <= 99,
-        None => false,
     }
 }
 
@@ -272,18 +261,6 @@ pub fn unknown_fields<M: UnknownItems>(
     items_at::<M>(alloc, value)
 }
 
-fn wire_type(value: &UnknownValue) -> u32
-    ensures { result ≡ wire_type (unknown_value value.now) }
-{
-    match value {
-        UnknownValue::Varint(_) => 0,
-        UnknownValue::Fixed64(_) => 1,
-        UnknownValue::Len(_) => 2,
-        UnknownValue::Group(_) => 3,
-        UnknownValue::Fixed32(_) => 5,
-    }
-}
-
 /// Bytes in lower-case hexadecimal.
 fn hex_value(alloc: Global, bytes: &[u8]) -> Result<Value, AllocError>
     ensures { IfOk result (λ tree. view tree ≡ string (encode_lower bytes.now)) }
@@ -309,7 +286,7 @@ pub fn unknown_tree(alloc: Global, field: &Unknown) -> Result<Value, AllocError>
 {
     let number = field.number;
     let value = wire_value(alloc, &field.value)?;
-    let wire = wire_type(&field.value);
+    let wire = wire_type(&field.value.wire_value());
     json!(in alloc; {"number": number, "value": (value), "wire": wire})
 }
 

@@ -16,25 +16,9 @@ use crate::reading::{
 };
 use crate::unknown::{UnknownItems, put_unknown, unknown_fields};
 use crate::writing::{put_needed_u32, put_optional, put_optional_text, put_u32, put_u64};
-use feed_values::{Items, Position, Slots, Unknown, VehiclePosition};
+use feed_values::{Position, Slots, Unknown, VehiclePosition};
 use serde_json::{Map, Value};
 use std::alloc::{AllocError, Global};
-
-/// A position of which nothing was read.
-fn empty(alloc: Global) -> VehiclePosition {
-    VehiclePosition {
-        trip: None,
-        position: None,
-        current_stop_sequence: None,
-        current_status: None,
-        timestamp: None,
-        congestion_level: None,
-        stop_id: None,
-        vehicle: None,
-        occupancy_status: None,
-        unknown: Items::new(alloc),
-    }
-}
 
 /// Reads each slot to where it stands, so that nothing is owned where one has a fault.
 fn fill(alloc: Global, value: &Value, message: &mut VehiclePosition) -> Result<(), JsonFault>
@@ -77,7 +61,7 @@ impl Form for VehiclePosition {
     }
 
     fn read(alloc: Global, value: &Value) -> Result<VehiclePosition, JsonFault> {
-        let mut message = Box::new(alloc, empty(alloc)).map_err(AllocError::from)?;
+        let mut message = Box::new(alloc, VehiclePosition::blank(alloc)).map_err(AllocError::from)?;
         fill(alloc, value, &mut message)?;
         Ok(Box::into_inner(message))
     }

@@ -28,18 +28,6 @@ fn put_natural(
     serde_json::put(members, alloc, key, Value::from(number))
 }
 
-fn put_integer(
-    alloc: Global,
-    members: &mut Map<String, Value>,
-    key: &str,
-    number: i64,
-) -> Result<(), AllocError>
-    ensures { OnOk result (members_view members.new.entries
-        ≡ with_member key.now (Some (scalar_form schema.I64 number)) (members_view members.old.entries)) }
-{
-    serde_json::put(members, alloc, key, Value::from(number))
-}
-
 pub fn put_bool(
     alloc: Global,
     members: &mut Map<String, Value>,
@@ -65,10 +53,7 @@ pub fn put_u32(
     ensures { OnOk result (members_view members.new.entries
         ≡ with_member key.now (option_map (scalar_form schema.U32) (natural held)) (members_view members.old.entries)) }
 {
-    match held {
-        Some(number) => put_natural(alloc, members, key, u64::from(number)),
-        None => Ok(()),
-    }
+    put_u64(alloc, members, key, held.map(u64::from))
 }
 
 /// The bits of a float that has to be there: also zero is written.
@@ -108,10 +93,7 @@ pub fn put_i32(
     ensures { OnOk result (members_view members.new.entries
         ≡ with_member key.now (option_map (scalar_form schema.I32) held) (members_view members.old.entries)) }
 {
-    match held {
-        Some(number) => put_integer(alloc, members, key, i64::from(number)),
-        None => Ok(()),
-    }
+    put_i64(alloc, members, key, held.map(i64::from))
 }
 
 pub fn put_i64(
@@ -124,7 +106,7 @@ pub fn put_i64(
         ≡ with_member key.now (option_map (scalar_form schema.I64) held) (members_view members.old.entries)) }
 {
     match held {
-        Some(number) => put_integer(alloc, members, key, number),
+        Some(number) => serde_json::put(members, alloc, key, Value::from(number)),
         None => Ok(()),
     }
 }

@@ -10,17 +10,10 @@ use Rattle.feed_values.specs.Accepted.{snapshot_limit}
 use Rattle.feed_codec.specs.declared.refusal.Reason.TheVariants.{TooLarge}
 use Rattle.feed_codec.specs.declared.refusal.Refusal.{Refusal}
 use Rattle.feed_codec.specs.Refusal.{refused, shifted, first_in, in_payload, part_fault, end_fault, refusal}
+use Rattle.feed_codec.proofs.ValidTexts.{unmapped, neither}
 
 abbrev pub nothing : Option Refusal
 nothing = None
-
-neither : (o q : Option Refusal) → option_or o q ≡ nothing → (o ≡ nothing) × (q ≡ nothing)
-neither None q e = (refl, e)
-neither (Some x) q e = absurd cc
-
-unmapped : (base : ℕ) (o : Option Refusal) → option_map (shifted base) o ≡ nothing → o ≡ nothing
-unmapped base None e = refl
-unmapped base (Some x) e = absurd cc
 
 abbrev pub Passes : ℕ → List ℕ → Type 0
 Passes n p = part_fault n p ≡ nothing

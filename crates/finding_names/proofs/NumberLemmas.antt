@@ -11,7 +11,7 @@ use Rattle.finding_names.specs.Numbers.{u8_named, u32_named}
 short : (n : ℕ) (are : Bool) → are ≡ true → 0 < n → n ≤ 20 → (nat_le 1 n && nat_le n 20 && are) ≡ true
 short n are h some few = grind (arith, nat_tests)
 
-fits : (n bound : ℕ) → n < bound → below bound n ≡ Some n
+pub fits : (n bound : ℕ) → n < bound → below bound n ≡ Some n
 fits n bound h = rw (lt-ltb n bound h) refl
 
 pub number_read : (n : ℕ) → n < 2 ^ 64 → number_of (decimal n) ≡ Some n

@@ -1,6 +1,9 @@
--- Numbers of texts, before and after one more text got one.
+-- Numbers of texts.
 use Rattle.std.proofs.Common.{◌≡◌, ◌<◌, ◌≤◌, ◌+◌, ◌^◌, ℕ, Bool, true, false, cond, List, Option, Some, None, is_some, ◌==◌, refl, sym, ◌∙◌, ap, subst, arith}
-use Rattle.std.specs.Prelude.{bytes_eq, option_map, option_and_then}
+use Rattle.std.specs.Prelude.{String, bytes_eq, string_bytes, option_map, option_and_then}
+use Rattle.std.specs.BTreeMap.{BTreeMap, get_by_text, Updates}
+use Rattle.std.specs.String.{string_cmp}
+use Rattle.std.proofs.lemmas.Map.Text.{btree_map_updates_text}
 use Rattle.std.proofs.lemmas.Bool.Decides.{nat_tests}
 use Rattle.std.proofs.lemmas.Slice.Eq.{bytes_eq-Decides}
 use Rattle.pairing_rules.specs.Numbers.{Numbers, AreApart, number_of, is_number, is_named, numbered}
@@ -8,38 +11,10 @@ use Rattle.pairing_rules.specs.declared.seat.Seat.{Seat}
 use Rattle.pairing_rules.specs.Seats.{seat_in, seat_of}
 use Rattle.rule_table.specs.Pairs.{PairRow, is_id}
 
--- n is the number of the text from then on
-pub given-next : (number new : List ℕ → Option ℕ) (last n : ℕ) (text : List ℕ) → AreApart number last → n + 1 ≡ last → last < 2 ^ 32 → ((other : List ℕ) → new other ≡ cond (bytes_eq text other) (Some n) (number other)) → AreApart new n
-given-next number new last n text a step l u = record {
-  from_last = λ t m h. from-by t m (bytes_eq text t) (sym (u t) ∙ h);
-  below = λ t m h. below-by t m (bytes_eq text t) (sym (u t) ∙ h);
-  apart = λ t o m h k. apart-by t o m (bytes_eq text t) (bytes_eq text o) refl refl (sym (u t) ∙ h) (sym (u o) ∙ k);
-}
-  where
-    from-by : (t : List ℕ) (m : ℕ) (b : Bool) → cond b (Some n) (number t) ≡ Some m → n ≤ m
-    from-by t m true h = let s : n ≡ m = cc in grind arith
-    from-by t m false h = let k = a.from_last t m h in grind arith
-
-    below-by : (t : List ℕ) (m : ℕ) (b : Bool) → cond b (Some n) (number t) ≡ Some m → m + 1 < 2 ^ 32
-    below-by t m true h = let s : n ≡ m = cc in grind arith
-    below-by t m false h = a.below t m h
-
-    apart-by : (t o : List ℕ) (m : ℕ) (b c : Bool) → bytes_eq text t ≡ b → bytes_eq text o ≡ c → cond b (Some n) (number t) ≡ Some m → cond c (Some n) (number o) ≡ Some m → t ≡ o
-    apart-by t o m true true e f h k = sym ((bytes_eq-Decides text t).0 e) ∙ (bytes_eq-Decides text o).0 f
-    apart-by t o m true false e f h k = let g = a.from_last o m k in let s : n ≡ m = cc in grind arith
-    apart-by t o m false true e f h k = let g = a.from_last t m h in let s : n ≡ m = cc in grind arith
-    apart-by t o m false false e f h k = a.apart t o m h k
-
-module _ (number new : Numbers) (next : ℕ) (text : List ℕ) where
-  pub next-own : ((other : List ℕ) → new other ≡ cond (bytes_eq text other) (Some next) (number other)) → new text ≡ Some next
-  next-own u = u text ∙ ap (λ b. cond b (Some next) (number text)) ((bytes_eq-Decides text text).1 refl)
-
-  pub next-kept : number text ≡ None → ((other : List ℕ) → new other ≡ cond (bytes_eq text other) (Some next) (number other)) → (other : List ℕ) (n : ℕ) → number other ≡ Some n → new other ≡ Some n
-  next-kept none u other n h = u other ∙ each (bytes_eq text other) refl
-    where
-      each : (b : Bool) → bytes_eq text other ≡ b → cond b (Some next) (number other) ≡ Some n
-      each true e = let same : text ≡ other = (bytes_eq-Decides text other).0 e in let f : number other ≡ None = ap number (sym same) ∙ none in cc
-      each false e = h
+-- what is found by a text after a change at one
+pub found_after : {Y : Type 0} (m n : BTreeMap (String Y) ℕ) (k : String Y) (w : ℕ) → Updates string_cmp m n k (Some w)
+    → (other : List ℕ) → get_by_text n other ≡ cond (bytes_eq (string_bytes k) other) (Some w) (get_by_text m other)
+found_after m n k w = btree_map_updates_text (string_bytes k) m n (Some w)
 
 -- ids that have the number of an id are that id
 pub number-id : (number : Numbers) (next : ℕ) → AreApart number next → (text : List ℕ) (n : ℕ) → number text ≡ Some n → (id : Option (List ℕ)) → is_number n (number_of number id) ≡ is_id text id

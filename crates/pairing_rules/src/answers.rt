@@ -7,8 +7,8 @@ ghost use Rattle.rule_table.specs.Asked.{ask_value};
 ghost use Rattle.rule_table.specs.Answers.{pair_answer, rows_answer};
 ghost use Rattle.rule_table.specs.Pairs.{first_key};
 
-use feed_values::{CellRef, Entity, field_at};
-use rule_table::{Answers, AskRef, EntityKey, PairView, number_cell, text_cell, truth_cell};
+use feed_values::{CellRef, Entity, field_at, text_cell};
+use rule_table::{Answers, AskRef, EntityKey, PairView, number_cell, truth_cell};
 
 fn id_of<'a, P: PairView>(view: &'a P, feed: u8, vehicle: &str) -> Option<&'a str>
     ensures { option_copied result ≡ option_map (λ key. key.id) (first_key (P.rows view.now) feed vehicle.now) }

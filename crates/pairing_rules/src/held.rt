@@ -34,7 +34,7 @@ impl Held {
     pub fn row(&self, alloc: Global, kind: Kind) -> Result<PairRow, AllocError>
         ensures { IfOk result (λ row. pair_row row ≡ held_row kind self.now) }
     {
-        let id = self.key.id.clone(alloc)?;
+        let id = self.key.id.clone()?;
         let trip = copied(alloc, self.trip.as_ref())?;
         let vehicle = copied(alloc, self.vehicle.as_ref())?;
         Ok(PairRow {

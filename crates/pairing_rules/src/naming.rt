@@ -13,17 +13,17 @@ use crate::entry::Entry;
 use crate::held::Held;
 use crate::seat::Seat;
 use rule_table::{EntityKey, Kind};
-use std::alloc::{AllocError, Global};
+use std::alloc::AllocError;
 use std::collections::{BTreeMap, BTreeSet};
 use std::rc::Rc;
 
 /// Puts the key of an entry's row into a set.
-fn put_key(alloc: Global, keys: &mut BTreeSet<EntityKey>, entry: &Entry) -> Result<(), AllocError>
+fn put_key(keys: &mut BTreeSet<EntityKey>, entry: &Entry) -> Result<(), AllocError>
     ensures { OnOk result ((key : Key) → contains key_cmp keys.new key ≡ (contains key_cmp keys.old key || has_key key (seen entry.now))) }
 {
     match &entry.row {
         Some(row) => {
-            keys.insert(row.key.clone(alloc)?)?;
+            keys.insert(row.key.clone()?)?;
             Ok(())
         }
         None => Ok(()),
@@ -32,7 +32,6 @@ fn put_key(alloc: Global, keys: &mut BTreeSet<EntityKey>, entry: &Entry) -> Resu
 
 /// Puts the keys of the rows under a number, of both kinds, into a set.
 fn put_number(
-    alloc: Global,
     keys: &mut BTreeSet<EntityKey>,
     entries: &BTreeSet<Entry>,
     number: u32,
@@ -43,14 +42,13 @@ fn put_number(
     let low = Entry::low(number, Kind::TripUpdate, 0);
     let high = Entry::low(number + 1, Kind::TripUpdate, 0);
     for entry in entries.range(low..high) {
-        put_key(alloc, keys, entry)?;
+        put_key(keys, entry)?;
     }
     Ok(())
 }
 
 /// The same, under a number that may be given.
 pub(crate) fn put_given_keys(
-    alloc: Global,
     keys: &mut BTreeSet<EntityKey>,
     entries: &BTreeSet<Entry>,
     number: Option<u32>,
@@ -59,14 +57,13 @@ pub(crate) fn put_given_keys(
     ensures { OnOk result ((key : Key) → contains key_cmp keys.new key ≡ (contains key_cmp keys.old key || has_given_key entries.now number key)) }
 {
     match number {
-        Some(number) => put_number(alloc, keys, entries, number),
+        Some(number) => put_number(keys, entries, number),
         None => Ok(()),
     }
 }
 
 /// Puts the key of a row into a set, where the row is of a kind.
 fn put_key_of(
-    alloc: Global,
     keys: &mut BTreeSet<EntityKey>,
     seat: &Seat,
     row: &Held,
@@ -75,14 +72,13 @@ fn put_key_of(
     ensures { OnOk result ((key : Key) → contains key_cmp keys.new key ≡ (contains key_cmp keys.old key || (is_of kind (held_row seat.now.kind row.now) && same_key key row.now.key))) }
 {
     if seat.kind == kind {
-        keys.insert(row.key.clone(alloc)?)?;
+        keys.insert(row.key.clone()?)?;
     }
     Ok(())
 }
 
 /// Puts the keys of the rows of a kind into a set.
 pub(crate) fn put_kind_keys(
-    alloc: Global,
     keys: &mut BTreeSet<EntityKey>,
     seats: &BTreeMap<Seat, Rc<Held>>,
     kind: Kind,
@@ -90,7 +86,7 @@ pub(crate) fn put_kind_keys(
     ensures { OnOk result ((key : Key) → contains key_cmp keys.new key ≡ (contains key_cmp keys.old key || list_any (λ e. is_of kind (row_at e) && same_key key (row_at e).key) seats.now.entries)) }
 {
     for (seat, row) in seats {
-        put_key_of(alloc, keys, seat, row, kind)?;
+        put_key_of(keys, seat, row, kind)?;
     }
     Ok(())
 }

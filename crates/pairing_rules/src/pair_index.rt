@@ -167,9 +167,9 @@ impl PairIndex {
         let trip = self.trips.number_given(given_text(&row.trip));
         let vehicle = self.vehicles.number_given(given_text(&row.vehicle));
         let mut keys = BTreeSet::new(alloc);
-        put_given_keys(alloc, &mut keys, &self.paired, trip)?;
-        put_given_keys(alloc, &mut keys, &self.unpaired, trip)?;
-        put_given_keys(alloc, &mut keys, &self.by_vehicle, vehicle)?;
+        put_given_keys(&mut keys, &self.paired, trip)?;
+        put_given_keys(&mut keys, &self.unpaired, trip)?;
+        put_given_keys(&mut keys, &self.by_vehicle, vehicle)?;
         let found = keys_in_order(alloc, keys)?;
         Ok(found)
     }
@@ -180,7 +180,7 @@ impl PairIndex {
         ensures keys { IfOk result (λ keys. (key : Key) → list_any (same_key key) keys ≡ list_any (λ r. pairs.is_of kind r && same_key key r.key) self.now) }
     {
         let mut keys = BTreeSet::new(alloc);
-        put_kind_keys(alloc, &mut keys, &self.seats, kind)?;
+        put_kind_keys(&mut keys, &self.seats, kind)?;
         let found = keys_in_order(alloc, keys)?;
         Ok(found)
     }

@@ -5,7 +5,7 @@ ghost use Rattle.rule_table.specs.Ids.{ids_value};
 ghost use Rattle.pairing_rules.specs.Rows.{pair_row};
 
 use feed_values::Text;
-use rule_table::{EntityKey, Ids, Kind};
+use rule_table::{EntityId, EntityKey, Ids, Kind};
 use std::alloc::{AllocError, Global};
 
 /// The ids that a trip update or a vehicle position of an entity gives. Rows are ordered by kind, then feed, id and occurrence.
@@ -15,7 +15,7 @@ pub struct PairRow {
     /// From 0.
     pub feed: u8,
     /// The id of the entity.
-    pub id: Text,
+    pub id: EntityId,
     /// How many entities with that id stand before it in its snapshot.
     pub occurrence: u32,
     pub trip: Option<Text>,
@@ -42,7 +42,7 @@ impl PairRow {
     ) -> Result<PairRow, AllocError>
         ensures { IfOk result (λ row. pair_row row ≡ row_with kind key.now (ids_value ids.entry)) }
     {
-        let id = key.id.clone(alloc)?;
+        let id = key.id.clone()?;
         let trip = copied(alloc, ids.trip)?;
         let vehicle = copied(alloc, ids.vehicle)?;
         Ok(PairRow {

@@ -1,5 +1,5 @@
 -- What the tree of a finding says is the finding.
-use Rattle.std.proofs.Common.{◌≡◌, ◌<◌, ◌^◌, ℕ, pos, negsuc, List, [], ◌∷◌, map, Option, Some, None, true, refl, ap, ◌∙◌, arith, lt-ltb}
+use Rattle.std.proofs.Common.{◌≡◌, ◌<◌, ◌^◌, ℕ, pos, negsuc, List, [], ◌∷◌, map, Option, Some, None, true, refl, ap, ◌∙◌, arith}
 use Rattle.std.specs.Prelude.{option_map, option_and_then}
 use Rattle.serde_json.specs.Data.{string}
 use Rattle.serde_json.specs.Find.{as_str}
@@ -11,13 +11,13 @@ use Rattle.rule_table.specs.declared.place.Place.{Place}
 use Rattle.rule_table.specs.declared.place.Place.TheVariants as place
 use Rattle.rule_table.specs.Asked.{in_range}
 use Rattle.rule_table.specs.Found.{Found}
-use Rattle.rt_words.specs.Numbers.{below}
 use Rattle.finding_names.specs.Asks.{ask_of}
 use Rattle.finding_names.specs.AskNames.{ask_name_of}
 use Rattle.finding_names.specs.Laws.{IsAskWithin}
 use Rattle.finding_names.proofs.AskLemmas.{ask_read_back, head_read}
 use Rattle.finding_names.proofs.NameLemmas.{rule_read}
 use Rattle.finding_names.proofs.PathLemmas.{path_read}
+use Rattle.finding_names.proofs.NumberLemmas.{fits}
 use Rattle.rt_report.specs.declared.finding.LineKind.{LineKind}
 use Rattle.rt_report.specs.declared.finding.LineKind.TheVariants as line
 use Rattle.rt_report.specs.Findings.{ask_keys, ask_name, cell_data, fact_data, finding_at, finding_data, line_name}
@@ -58,8 +58,6 @@ facts_said [] h = refl
 facts_said (f ∷ fs) h = rw (fact_said f h.0.0 h.0.1, facts_said fs h.1) refl
 
 -- ---- a finding
-fits : (n bound : ℕ) → n < bound → below bound n ≡ Some n
-fits n bound h = rw (lt-ltb n bound h) refl
 
 kind_said : (kind : LineKind) → kind_named (line_name kind) ≡ Some kind
 kind_said line.Finding = refl

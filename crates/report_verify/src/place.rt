@@ -4,9 +4,9 @@ ghost use Rattle.serde_json.specs.View.{view};
 ghost use Rattle.report_verify.specs.Said.{feed_at, occurrence_at, path_at, place_of, placed};
 
 use crate::members::{count_at, text_at};
-use feed_values::{Path, Text};
+use feed_values::Path;
 use finding_names::{path_named, u8_of, u32_of};
-use rule_table::{EntityKey, Place};
+use rule_table::{EntityId, EntityKey, Place};
 use serde_json::Value;
 use std::alloc::{AllocError, Global};
 
@@ -43,7 +43,7 @@ fn placed(alloc: Global, feed: u8, path: Path, finding: &Value) -> Result<Option
     };
     let key = EntityKey {
         feed,
-        id: Text::of(alloc, text)?,
+        id: EntityId::of(alloc, text)?,
         occurrence,
     };
     Ok(Some(Place::Entity(key, path)))
