@@ -2,30 +2,22 @@
 use Rattle.std.proofs.Common.{◌≡◌, ℕ, zero, suc, ◌+◌, ◌≤◌, ◌<◌, nat_lt, Bool, true, false, cond, List, [], ◌∷◌, ◌++◌, length, take, get_or, Some, None, IfSome, ◌⊎◌, inl, inr, refl, sym, subst, ap, ◌∙◌, append-nil, arith}
 use Rattle.std.specs.declared.option.Option.{Option}
 use Rattle.std.specs.List.{AllByRecursion, Contains, filter, flat_map}
-use Rattle.std.proofs.lemmas.Bool.Decides.{nat_tests}
 use Rattle.std.proofs.lemmas.List.{take_more}
 use Rattle.std.proofs.lemmas.List.Concat.{flat_map-append}
 use Rattle.std.proofs.lemmas.List.Elements.{filter-append}
 use Rattle.std.proofs.lemmas.List.Sums.{fold-append}
+use Rattle.std.proofs.lemmas.Bool.{ltb-false, ltb-true}
+use Rattle.std.proofs.lemmas.Option.{same_Some}
 use Rattle.alert_terms.specs.InForce.{all_bounds, earliest, lesser}
 use Rattle.alert_terms.specs.Laws.{NextIsLeast}
-
-some_same : (m n : ℕ) → Some m ≡ Some n → m ≡ n
-some_same m n e = cc e
-
-above : (m n : ℕ) → nat_lt m n ≡ true → m < n
-above m n e = grind (arith, nat_tests)
-
-below : (m n : ℕ) → nat_lt m n ≡ false → n ≤ m
-below m n e = grind (arith, nat_tests)
 
 -- ---- the lesser of two
 lesser_last : (b : Bool) (m n k : ℕ) → nat_lt n m ≡ b → k < cond b n m → k < n
 lesser_last true m n k e l = l
-lesser_last false m n k e l = omega (arith, below n m e)
+lesser_last false m n k e l = omega (arith, ltb-false n m e)
 
 lesser_first : (b : Bool) (m n k : ℕ) → nat_lt n m ≡ b → k < cond b n m → k < m
-lesser_first true m n k e l = omega (arith, above n m e)
+lesser_first true m n k e l = omega (arith, ltb-true n m e)
 lesser_first false m n k e l = l
 
 under_last : (o : Option ℕ) (n k : ℕ) → k < lesser o n → k < n
@@ -73,11 +65,11 @@ first x ns n e = (0, omega arith, sym e)
 reached : (o : Option ℕ) (ns : List ℕ) (n : ℕ) → earliest o ns ≡ Some n → (o ≡ Some n) ⊎ Contains ns n
 reached o [] n e = inl e
 reached None (x ∷ ns) n e = elim (reached (Some x) ns n e) [
-  | inl is ↦ inr (first x ns n (sym (some_same x n is)))
+  | inl is ↦ inr (first x ns n (sym (same_Some x n is)))
   | inr c ↦ inr (later x ns n c)
 ]
 reached (Some m) (x ∷ ns) n e = elim (reached (Some (lesser (Some m) x)) ns n e) [
-  | inl is ↦ chosen (lesser_one (nat_lt x m) m x) (some_same _ n is)
+  | inl is ↦ chosen (lesser_one (nat_lt x m) m x) (same_Some _ n is)
   | inr c ↦ inr (later x ns n c)
 ]
   where
@@ -93,7 +85,7 @@ none_after moment (b ∷ bs) e = by (nat_lt moment b) refl e (none_after moment 
     by : (t : Bool) → nat_lt moment b ≡ t → earliest None (cond t (b ∷ filter (nat_lt moment) bs) (filter (nat_lt moment) bs)) ≡ None →
         (earliest None (filter (nat_lt moment) bs) ≡ None → AllByRecursion (λ b. b ≤ moment) bs) → AllByRecursion (λ b. b ≤ moment) (b ∷ bs)
     by true is e rest = absurd (one_stays b (filter (nat_lt moment) bs) e)
-    by false is e rest = (below moment b is, rest e)
+    by false is e rest = (ltb-false moment b is, rest e)
 
 kept_of : (moment : ℕ) (bs : List ℕ) (n : ℕ) → Contains (filter (nat_lt moment) bs) n → Contains bs n
 kept_of moment [] n c = c
@@ -112,7 +104,7 @@ all_after moment [] = tt
 all_after moment (b ∷ bs) = by (nat_lt moment b) refl (all_after moment bs)
   where
     by : (t : Bool) → nat_lt moment b ≡ t → AllByRecursion (λ b. moment < b) (filter (nat_lt moment) bs) → AllByRecursion (λ b. moment < b) (cond t (b ∷ filter (nat_lt moment) bs) (filter (nat_lt moment) bs))
-    by true is rest = (above moment b is, rest)
+    by true is rest = (ltb-true moment b is, rest)
     by false is rest = rest
 
 -- what holds of those after a moment
@@ -123,7 +115,7 @@ where_after P moment (b ∷ bs) h = by (nat_lt moment b) refl h (where_after P m
     by : (t : Bool) → nat_lt moment b ≡ t → AllByRecursion P (cond t (b ∷ filter (nat_lt moment) bs) (filter (nat_lt moment) bs)) →
         (AllByRecursion P (filter (nat_lt moment) bs) → AllByRecursion (λ b. moment < b → P b) bs) → AllByRecursion (λ b. moment < b → P b) (b ∷ bs)
     by true is h rest = ((λ l. h.0), rest h.1)
-    by false is h rest = ((λ l. absurd (omega (arith, l, below moment b is))), rest h)
+    by false is h rest = ((λ l. absurd (omega (arith, l, ltb-false moment b is))), rest h)
 
 each_from : (n : ℕ) (ns : List ℕ) (o : Option ℕ) → earliest o ns ≡ Some n → AllByRecursion (λ b. n ≤ b) ns
 each_from n [] o e = tt
@@ -135,17 +127,17 @@ each_from n (x ∷ ns) o e = (least e, each_from n ns (Some (lesser o x)) e)
       where
         by : (t : Bool) → nat_lt x m ≡ t → cond t x m ≤ x
         by true is = omega arith
-        by false is = below x m is
+        by false is = ltb-false x m is
 
     least_old : (m x : ℕ) → lesser (Some m) x ≤ m
     least_old m x = by (nat_lt x m) refl
       where
         by : (t : Bool) → nat_lt x m ≡ t → cond t x m ≤ m
-        by true is = omega (arith, above x m is)
+        by true is = omega (arith, ltb-true x m is)
         by false is = omega arith
 
     falls : (m : ℕ) (ns : List ℕ) → earliest (Some m) ns ≡ Some n → n ≤ m
-    falls m [] e = omega (arith, some_same m n e)
+    falls m [] e = omega (arith, same_Some m n e)
     falls m (y ∷ ns) e = omega (arith, falls (lesser (Some m) y) ns e, least_old m y)
 
     least : earliest (Some (lesser o x)) ns ≡ Some n → n ≤ x

@@ -55,7 +55,7 @@ impl<'a> AlertView<'a> {
         let mut keys = Items::new(alloc);
         for alert in self.alerts.as_slice() {
             if alert.is_in_force(moment, query) {
-                keys.push(alert.key().clone(alloc)?)?;
+                keys.push(alert.key().clone()?)?;
             }
         }
         Ok(keys)

@@ -1,8 +1,8 @@
 -- What bounds tell of an entity that stays.
 use Rattle.std.specs.Prelude.{◌≡◌, ℕ, ◌<◌, ◌≤◌, ◌==◌, nat_lt, ℤ, pos, Bool, true, false, cond, not, ◌&&◌, ◌||◌, List, [], Option, Some, None, IfSome, option_map, refl}
 use Rattle.std.proofs.Common.{sym, ap, ◌∙◌, subst, arith, eq-eqb}
-use Rattle.std.proofs.lemmas.Bool.{and_parts}
-use Rattle.std.proofs.lemmas.Bool.Decides.{nat_tests, Decides-int_eq}
+use Rattle.std.proofs.lemmas.Bool.{and_parts, or_parts}
+use Rattle.std.proofs.lemmas.Bool.Decides.{nat_tests}
 use borrow.Author.Tests.{eqb-true}
 use Rattle.feed_values.specs.Cells.{entity_cell}
 use Rattle.feed_values.specs.Snapshot.{header_of, timestamp_of, entity_of}
@@ -11,8 +11,8 @@ use Rattle.rule_table.specs.Bounds.{IsAbove}
 use Rattle.rule_history.specs.History.{Snapshot, IsTaken, entities_in, entities_of_snapshot, feed_limit, feed_limit-is}
 use Rattle.rule_history.specs.Answered.{payload_under}
 use Rattle.rule_history.specs.Changed.{keeps_bounds, same_number}
+use Rattle.rule_history.proofs.SameSnapshots.{same_numbers}
 use Rattle.engine_laws.specs.HeldFeeds.{HeldFeed, last_after}
-use Rattle.engine_laws.proofs.Spots.{or_false}
 use Rattle.touched_entities.specs.part_laws.Bounded.{AreNumbersHeld, low_bound}
 use Rattle.touched_entities.specs.part_laws.Touched.{is_among}
 use Rattle.touched_entities.specs.part_laws.BoundedProofs.{numbers_held}
@@ -60,12 +60,6 @@ past f h = grind (arith, nat_tests)
 
 not_past : (f g : ℕ) → f < 16 → 16 ≤ g → (f == g) ≡ false
 not_past f g l m = grind (arith, nat_tests)
-
-same_numbers : (a b : Option ℤ) → same_number a b ≡ true → a ≡ b
-same_numbers None None h = refl
-same_numbers None (Some b) h = cc
-same_numbers (Some a) None h = cc
-same_numbers (Some a) (Some b) h = ap Some ((Decides-int_eq a b).0 h)
 
 module _ (state : State) (s : Snapshot) (is : IsState state) (taken : IsTaken s) (fits : s.feed < 16) where
   abbrev old : ℕ → HeldFeed
@@ -120,7 +114,7 @@ module _ (state : State) (s : Snapshot) (is : IsState state) (taken : IsTaken s)
     over = is_over_then state s are.before key || is_over_then state s (Some are.now) key
 
     moved : (not (keeps_bounds s (old s.feed).last) && over) ≡ false
-    moved = (or_false (is_fresh_key state s key) (not (keeps_bounds s (old s.feed).last) && over) (sym (are.keys_are.among key) ∙ out)).1
+    moved = (or_parts (is_fresh_key state s key) (not (keeps_bounds s (old s.feed).last) && over) (sym (are.keys_are.among key) ∙ out)).1
 
     stays_by : (o : Option Snapshot) → (old s.feed).last ≡ o → bounded_by o key (entity_of p) ≡ bounded_by (Some s) key (entity_of p)
     stays_by None q = let none : None ≡ Some p = sym (ap (λ n. payload_under key (entities_of_snapshot n)) q) ∙ was in cc
@@ -132,7 +126,7 @@ module _ (state : State) (s : Snapshot) (is : IsState state) (taken : IsTaken s)
             ap (λ x. bounded_found x b.moment key (entity_of p)) (sym (same_numbers (timestamp_of (header_of s.bytes)) (timestamp_of (header_of b.bytes)) k.0))
             ∙ ap (λ m. bounded_found (timestamp_of (header_of s.bytes)) m key (entity_of p)) (sym (eqb-true s.moment b.moment k.1))
         choose false keeps h =
-            let n = or_false (is_over_then state s are.before key) (is_over_then state s (Some are.now) key) h in
+            let n = or_parts (is_over_then state s are.before key) (is_over_then state s (Some are.now) key) h in
             not_before b (subst (λ o. IfSome o IsTaken) q (is.taken s.feed)) (sym (ap (λ o. payload_under key (entities_of_snapshot o)) q) ∙ was) are.before (subst (IsBoundOf are.before) q are.before_is) n.0
             ∙ sym (later_found s taken are.now are.now_is key p there (not_later are.now n.1))
 

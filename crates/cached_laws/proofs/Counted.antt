@@ -5,10 +5,11 @@ use Rattle.std.specs.Option.{option_or}
 use Rattle.std.specs.declared.cmp.Ordering.TheVariants as order
 use Rattle.std.proofs.Common.{sym, ap, ◌∙◌, arith}
 use Rattle.std.proofs.lemmas.Bool.Decides.{nat_tests}
+use Rattle.std.proofs.lemmas.Bool.{or_right, or_left}
 use borrow.Author.Tests.{eqb-true}
 use Rattle.rule_table.specs.declared.key.EntityKey.{EntityKey}
 use Rattle.rule_table.specs.Groups.{Each}
-use Rattle.rule_table.specs.GroupLaws.{each_weaken, or_left, or_right}
+use Rattle.rule_table.specs.GroupLaws.{each_weaken}
 use Rattle.rule_table.specs.Order.{key_cmp, same_key}
 use Rattle.rule_table.specs.Rises.{Rises, Rising}
 use Rattle.rule_table.proofs.SameKeys.{key_self}
@@ -16,6 +17,7 @@ use Rattle.rule_history.specs.History.{Keyed, below}
 use Rattle.rule_history.specs.Answered.{payload_under}
 use Rattle.rule_history.specs.Changed.{count_of}
 use Rattle.engine_laws.proofs.Sorted.{apart_rising, found_under}
+use Rattle.row_changes.proofs.Feeds.{lt-other, lt-itself, lt-zero}
 use Rattle.touched_entities.specs.part_laws.Touched.{is_among}
 use Rattle.touched_entities.specs.part_laws.SparseProofs.{sparse}
 use Rattle.touched_entities.specs.part_laws.StaysProofs.{other_way}
@@ -99,17 +101,8 @@ or_none : (o : Option (List ℕ)) → option_or o None ≡ o
 or_none None = refl
 or_none (Some p) = refl
 
-lt-zero : (x : ℕ) → nat_lt x zero ≡ false
-lt-zero x = grind (arith, nat_tests)
-
 lt-not : (x n : ℕ) → (x == n) ≡ true → nat_lt x n ≡ false
 lt-not x n h = grind (arith, nat_tests)
-
-lt-itself : (x n : ℕ) → (x == n) ≡ true → nat_lt x (suc n) ≡ true
-lt-itself x n h = grind (arith, nat_tests)
-
-lt-other : (x n : ℕ) → (x == n) ≡ false → nat_lt x n ≡ nat_lt x (suc n)
-lt-other x n h = grind (arith, nat_tests)
 
 -- Under a key is what its own feed has there.
 module _ (part : ℕ → List Keyed) (of : (f : ℕ) → Each (λ e. e.0.feed ≡ f) (part f)) (key : EntityKey) where

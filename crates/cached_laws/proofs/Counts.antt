@@ -1,12 +1,13 @@
 -- How many entities are judged again, part by part.
-use Rattle.std.specs.Prelude.{◌≡◌, ℕ, ◌+◌, ◌<◌, ◌==◌, nat_lt, Bool, true, false, cond, not, ◌&&◌, ◌||◌, List, [], ◌∷◌, length, Option, Some, None, IfSome, option_map, unwrap_or, bytes_eq, refl}
+use Rattle.std.specs.Prelude.{◌≡◌, ℕ, ◌+◌, ◌<◌, ◌==◌, nat_lt, Bool, true, false, cond, not, ◌&&◌, ◌||◌, List, [], ◌∷◌, length, Option, Some, None, IfSome, option_map, unwrap_or, refl}
 use Rattle.std.specs.List.{list_any}
 use Rattle.std.specs.declared.cmp.Ordering.TheVariants as order
 use Rattle.std.specs.Ordering.{nat_cmp, ordering_then}
 use Rattle.std.specs.Cmp.Lexicographic.{slice_cmp}
 use Rattle.std.proofs.Common.{sym, ap, ◌∙◌, subst, arith, eq-eqb}
 use Rattle.std.proofs.lemmas.Bool.Decides.{nat_tests}
-use Rattle.std.proofs.lemmas.Slice.Eq.{bytes_eq-Decides}
+use Rattle.std.proofs.Math.Bool.{and-false, or-false}
+use Rattle.std.proofs.lemmas.Bool.{or_parts}
 use borrow.Author.Tests.{eqb-true}
 use Rattle.feed_values.specs.Snapshot.{header_of, timestamp_of, entity_of, entity_payloads}
 use Rattle.timetable.specs.Timetables.{Tables}
@@ -24,8 +25,9 @@ use Rattle.rule_table.specs.Rises.{Rising}
 use Rattle.rule_table.specs.Rules.{rule_number, same_rule}
 use Rattle.rule_history.specs.History.{Snapshot, IsTaken, Keyed, entities_in, entities_of_snapshot, below, feed_limit, feed_limit-is}
 use Rattle.rule_history.specs.Answered.{payload_under}
-use Rattle.rule_history.specs.Changed.{count_of, has_moved, is_paired, is_payload, keeps_bounds}
+use Rattle.rule_history.specs.Changed.{count_of, has_moved, is_paired, keeps_bounds}
 use Rattle.rule_history.specs.Standing.{Standing}
+use Rattle.rule_history.proofs.SameSnapshots.{same_payload}
 use Rattle.engine_laws.specs.Delta.{has_limit, is_limited, is_new, is_other, bounded_held, paired_held, peaked_held, tested_held}
 use Rattle.engine_laws.specs.HeldFeeds.{HeldFeed, IsLastOf, KeyedLists, entities_found, entity_found, gathered_after, held_after, last_after, list_under, peaks_after, renewed_lists, rows_held}
 use Rattle.engine_laws.specs.Standings.{findings_of, renewed}
@@ -33,7 +35,7 @@ use Rattle.engine_laws.proofs.Ascending.{nat_less}
 use Rattle.engine_laws.proofs.Lists.{each_of_map, filter-none, rises_below}
 use Rattle.engine_laws.proofs.Since.{findings-renewed}
 use Rattle.engine_laws.proofs.Sorted.{entities_feed, entities_rise}
-use Rattle.engine_laws.proofs.Spots.{any-having, having, is_false, is_some_one, or_false}
+use Rattle.engine_laws.proofs.Spots.{any-having, having, is_false, is_some_one}
 use Rattle.touched_entities.specs.standing_walks.Merged.{merged, merged_four}
 use Rattle.history_rules.specs.Rules.{bound_rules, peak_rules}
 use Rattle.pairing_rules.specs.Pairing.{pairing_rules}
@@ -50,7 +52,8 @@ use Rattle.touched_entities.specs.entity_index.TakingProofs.{keyed_apart}
 use Rattle.row_changes.specs.Given.{rows_under}
 use Rattle.row_changes.specs.Held.{entity_at}
 use Rattle.row_changes.specs.Touched.{gives_later}
-use Rattle.row_changes.proofs.Lists.{and-none, or-none}
+use Rattle.row_changes.proofs.Feeds.{of-feed}
+use Rattle.row_changes.proofs.Stamped.{eq-turned}
 use Rattle.touched_entities.specs.entity_parts.Found.{bounded_found, local_found, local_rules, paired_found, peaked_found}
 use Rattle.touched_entities.specs.entity_parts.WholeProofs.{bounded_of, four_groups, local_of, paired_of, peaked_of, parts_are_the_whole}
 use Rattle.touched_entities.specs.Again.{found_in, found_under, lists_at, lists_under, payload_at}
@@ -65,17 +68,14 @@ use Rattle.cached_laws.proofs.Counted.{below_at, counted, passes}
 abbrev limits : Found → Bool
 limits f = same_rule f.rule E012 || same_rule f.rule E050
 
-turned : (a b : ℕ) → (a == b) ≡ (b == a)
-turned a b = grind (arith, nat_tests)
-
 limits-bound : (f : Found) → limits f ≡ has_rule bound_rules f.rule
 limits-bound f =
-    ap (λ b. b || same_rule f.rule E050) (turned (rule_number f.rule) (rule_number E012))
-    ∙ ap (λ b. rule_number E012 == rule_number f.rule || b) (turned (rule_number f.rule) (rule_number E050) ∙ sym (or-none (rule_number E050 == rule_number f.rule)))
+    ap (λ b. b || same_rule f.rule E050) (eq-turned (rule_number f.rule) (rule_number E012))
+    ∙ ap (λ b. rule_number E012 == rule_number f.rule || b) (eq-turned (rule_number f.rule) (rule_number E050) ∙ sym (or-false (rule_number E050 == rule_number f.rule)))
 
 none_bound : (fs : List Found) → AreFoundOf bound_rules fs → list_any limits fs ≡ false → fs ≡ []
 none_bound [] all h = refl
-none_bound (f ∷ fs) all h = let t : limits f ≡ true = limits-bound f ∙ all.0 in let n : limits f ≡ false = (or_false (limits f) (list_any limits fs) h).0 in cc (t, n)
+none_bound (f ∷ fs) all h = let t : limits f ≡ true = limits-bound f ∙ all.0 in let n : limits f ≡ false = (or_parts (limits f) (list_any limits fs) h).0 in cc (t, n)
 
 -- those of other rules have none
 abbrev limit : Standing → Bool
@@ -204,9 +204,6 @@ module _ (t : Option Tables) (n : ℕ) (s : Snapshot) (old : ℕ → HeldFeed) (
       ∙ ap has_limit list-then ∙ renewed-limit (list_under key had) n (entity_found t u s (key, p)) ∙ found-limit t u s key p
 
 -- ---- entities of all feeds
-of_feed : (f : ℕ) (o : Option Snapshot) → IsLastOf f o → Each (λ e. e.0.feed ≡ f) (entities_of_snapshot o)
-of_feed f None l = tt
-of_feed f (Some q) l = subst (λ g. Each (λ (e : Keyed). e.0.feed ≡ g) (entities_in q.feed q.bytes)) l (entities_feed q.feed q.bytes)
 
 rise_last : (o : Option Snapshot) → Rising (entities_of_snapshot o)
 rise_last None = tt
@@ -217,18 +214,10 @@ feed_less a b l = ap (λ o. ordering_then o (ordering_then (slice_cmp nat_cmp a.
 
 below_rise : (part : ℕ → Option Snapshot) → ((f : ℕ) → IsLastOf f (part f)) → (n : ℕ) → Rising (below (λ f. entities_of_snapshot (part f)) n)
 below_rise part of n =
-    (rises_below {A = Keyed} (λ d e. key_cmp d.0 e.0) (λ e. e.0.feed) (λ d e l. feed_less d.0 e.0 l) (λ f. entities_of_snapshot (part f)) (λ f. rise_last (part f)) (λ f. of_feed f (part f) (of f)) n).0
+    (rises_below {A = Keyed} (λ d e. key_cmp d.0 e.0) (λ e. e.0.feed) (λ d e l. feed_less d.0 e.0 l) (λ f. entities_of_snapshot (part f)) (λ f. rise_last (part f)) (λ f. of-feed f (part f) (of f)) n).0
 
 within_limit : (f : ℕ) → f < 16 → nat_lt f 256 ≡ true
 within_limit f l = grind (arith, nat_tests)
-
-same_payload : (p : List ℕ) (o : Option (List ℕ)) → not (is_payload p o) ≡ false → o ≡ Some p
-same_payload p None h = cc
-same_payload p (Some q) h = ap Some (sym ((bytes_eq-Decides p q).0 (is_true (bytes_eq p q) h)))
-  where
-    is_true : (b : Bool) → not b ≡ false → b ≡ true
-    is_true true k = refl
-    is_true false k = cc
 
 same_or : (a b c d : Bool) → a ≡ b → (b ≡ false → c ≡ d) → (a || c) ≡ (b || d)
 same_or a true c d h f = ap (λ x. x || c) h
@@ -280,7 +269,7 @@ module _ (state : State) (s : Snapshot) (is : IsState state) (fits : s.feed < 16
       either false e = (is.own f).last_of
 
   then_under : (key : EntityKey) → payload_under key all_then ≡ cond (nat_lt key.feed feed_limit) (payload_under key (entities_of_snapshot (last_after s old key.feed))) None
-  then_under key = below_at (λ f. entities_of_snapshot (last_after s old f)) (λ f. of_feed f (last_after s old f) (last_own f)) feed_limit key
+  then_under key = below_at (λ f. entities_of_snapshot (last_after s old f)) (λ f. of-feed f (last_after s old f) (last_own f)) feed_limit key
 
   entity-below : (key : EntityKey) → entity_at (lasts_then s old) key ≡ option_map entity_of (payload_under key all_then)
   entity-below key = either (nat_lt key.feed feed_limit) ∙ sym (ap (option_map entity_of) (then_under key))
@@ -345,7 +334,7 @@ module _ (state : State) (s : Snapshot) (is : IsState state) (fits : s.feed < 16
     not_over key h (Some bound) = either (s.feed == key.feed) refl
       where
         either : (b : Bool) → (s.feed == key.feed) ≡ b → (key.feed == s.feed && gives_later bound (entity_at (lasts_then s old) key)) ≡ false
-        either true e = ap (λ v. key.feed == s.feed && gives_later bound v) (entity-here key e ∙ ap (option_map entity_of) h) ∙ and-none (key.feed == s.feed)
+        either true e = ap (λ v. key.feed == s.feed && gives_later bound v) (entity-here key e ∙ ap (option_map entity_of) h) ∙ and-false (key.feed == s.feed)
         either false e = ap (λ b. b && gives_later bound (entity_at (lasts_then s old) key)) (other_way s.feed key.feed e)
 
     -- and where there is one it is, where its list has a bound
@@ -392,7 +381,7 @@ module _ (state : State) (s : Snapshot) (is : IsState state) (fits : s.feed < 16
       bounded_passes None h =
           ap (λ b. b || (moves && over)) (fresh_none s.feed (bytes_before state s.feed) s.bytes key h)
           ∙ ap (λ b. moves && (b || is_over_then state s (Some are.now) key)) (not_over key h are.before)
-          ∙ ap (λ b. moves && b) (not_over key h (Some are.now)) ∙ and-none moves
+          ∙ ap (λ b. moves && b) (not_over key h (Some are.now)) ∙ and-false moves
       bounded_passes (Some p) h =
           same_or (is_fresh_key state s key) (is_new (old s.feed) (key, p)) (moves && over) (is_limited s (old s.feed) new (key, p)) (fresh_passes key ∙ ap (passes (is_new (old s.feed)) key) h)
           (λ stays. ap (λ b. moves && (b || is_over_then state s (Some are.now) key))

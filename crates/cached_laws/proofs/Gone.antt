@@ -1,6 +1,7 @@
 -- The keys of the entities that are gone.
 use Rattle.std.specs.Prelude.{◌≡◌, ℕ, ◌==◌, Bool, true, false, List, filter, Option, Some, None, is_some, is_none, refl}
 use Rattle.std.proofs.Common.{sym, ap, ◌∙◌}
+use Rattle.std.proofs.lemmas.Bool.{true≢false}
 use borrow.Author.Tests.{eqb-true}
 use Rattle.rule_table.specs.declared.key.EntityKey.{EntityKey}
 use Rattle.rule_table.specs.Groups.{Each}
@@ -45,18 +46,12 @@ none_is (Some x) h = cc
 pub gone_feed : (f : ℕ) (old : Option (List ℕ)) (new : List ℕ) (k : EntityKey) → is_among (gone_keys f old new) k ≡ true → k.feed ≡ f
 gone_feed f old new k h = elim (f == k.feed) as (λ b. (f == k.feed) ≡ b → k.feed ≡ f) [
   | true ↦ λ e. sym (eqb-true f k.feed e)
-  | false ↦ λ e. absurd (never (sym h ∙ gone_none f old new k (none_far f k (entities_before f old) (feed_before f old) e)))
+  | false ↦ λ e. absurd (true≢false (sym h ∙ gone_none f old new k (none_far f k (entities_before f old) (feed_before f old) e)))
 ] refl
-  where
-    never : true ≡ false → ⊥
-    never e = cc
 
 pub gone_payload : (f : ℕ) (old : Option (List ℕ)) (new : List ℕ) (k : EntityKey) → is_among (gone_keys f old new) k ≡ true → payload_under k (entities_in f new) ≡ None
 gone_payload f old new k h = here (payload_under k (entities_before f old)) refl
   where
-    never : true ≡ false → ⊥
-    never e = cc
-
     here : (o : Option (List ℕ)) → payload_under k (entities_before f old) ≡ o → payload_under k (entities_in f new) ≡ None
-    here None q = absurd (never (sym h ∙ gone_none f old new k q))
+    here None q = absurd (true≢false (sym h ∙ gone_none f old new k q))
     here (Some p) q = none_is (payload_under k (entities_in f new)) (sym (gone_some f old new k p q) ∙ h)

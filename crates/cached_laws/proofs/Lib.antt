@@ -10,5 +10,6 @@ pub mod Passable
 pub mod Gone
 pub mod Told
 pub mod Next
+pub mod Between
 pub mod Change
 pub mod Proved

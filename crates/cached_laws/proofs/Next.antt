@@ -1,5 +1,5 @@
 -- What is held once a snapshot was judged is what is owed for it.
-use Rattle.std.specs.Prelude.{◌≡◌, ℕ, ◌<◌, ◌≤◌, ◌==◌, true, false, List, [], ◌∷◌, map, Option, Some, None, option_map, unwrap_or, IfSome, refl}
+use Rattle.std.specs.Prelude.{◌≡◌, ℕ, ◌<◌, ◌≤◌, ◌==◌, true, false, List, [], map, Option, Some, None, option_map, unwrap_or, IfSome, refl}
 use Rattle.std.proofs.Common.{sym, ap, ◌∙◌, subst, arith}
 use Rattle.std.proofs.Math.Path.{fun_ext}
 use borrow.Author.Tests.{eqb-true}
@@ -22,13 +22,14 @@ use Rattle.engine_laws.proofs.Ascending.{head_ascends}
 use Rattle.engine_laws.proofs.Lists.{below-same, map-same}
 use Rattle.engine_laws.proofs.Next.{gathered_same}
 use Rattle.engine_laws.proofs.Proved.{next_is_own}
-use Rattle.engine_laws.proofs.Sorted.{apart_rising, entities_feed, entities_rise}
+use Rattle.engine_laws.proofs.Sorted.{apart_rising, entities_rise}
+use Rattle.row_changes.proofs.Feeds.{of-feed}
 use Rattle.touched_entities.specs.standing_walks.Merged.{merged_four}
 use Rattle.touched_entities.specs.standing_walks.Walked.{IsInOrder}
 use Rattle.touched_entities.specs.standing_walks.WalkedProofs.{renewed_rises}
 use Rattle.touched_entities.specs.entity_index.Held.{HeldEntities, at_key, entities_before, held_at, parts_at}
 use Rattle.touched_entities.specs.entity_index.Lists.{Lists, no_lists}
-use Rattle.touched_entities.specs.entity_index.AtKeyProofs.{at-mapped, keys-apart}
+use Rattle.touched_entities.specs.entity_index.AtKeyProofs.{at-mapped}
 use Rattle.touched_entities.specs.entity_parts.Found.{local_found, paired_found, peaked_found}
 use Rattle.touched_entities.specs.entity_parts.WholeProofs.{parts_are_the_whole}
 use Rattle.touched_entities.specs.Again as again
@@ -39,7 +40,7 @@ use Rattle.cached_laws.specs.State.{HeldHeader, State, IsState, feed_of, header_
 use Rattle.cached_laws.specs.Cached.{AreCached, bounded_by, bounded_in, peaked_in}
 use Rattle.cached_laws.specs.Keys.{AreTouched, lasts_then}
 use Rattle.cached_laws.specs.Judged.{AreJudged, IsTakenIn}
-use Rattle.cached_laws.proofs.Entries.{same_entries}
+use Rattle.cached_laws.proofs.Entries.{lists_are, map-map}
 use Rattle.cached_laws.proofs.Parts.{bounded_is, local_is, paired_is, peaked_is}
 use Rattle.cached_laws.proofs.Placed.{last_far, last_here}
 use Rattle.cached_laws.proofs.Step.{cached_then, lists_last, lists_now, payload_last}
@@ -55,28 +56,9 @@ under_is state k f h =
     go None = refl
     go (Some l) = refl
 
-pub map-map : {A B C : Type 0} (f : A → B) (g : B → C) (xs : List A) → map g (map f xs) ≡ map (λ x. g (f x)) xs
-map-map f g [] = refl
-map-map f g (x ∷ xs) = ap (λ ys. g (f x) ∷ ys) (map-map f g xs)
-
 keys_apart : (o : Option Snapshot) → AreApart (entities_of_snapshot o)
 keys_apart None = tt
 keys_apart (Some s) = apart_rising (entities_in s.feed s.bytes) (entities_rise s.feed s.bytes)
-
-keys_feed : (f : ℕ) (o : Option Snapshot) → IsLastOf f o → Each (λ e. e.0.feed ≡ f) (entities_of_snapshot o)
-keys_feed f None h = tt
-keys_feed f (Some s) h = subst (λ g. Each (λ e. e.0.feed ≡ g) (entities_in s.feed s.bytes)) h (entities_feed s.feed s.bytes)
-
-each_key : {A B : Type 0} (P : EntityKey → Type 0) (xs : List (EntityKey × A)) (ys : List (EntityKey × B)) → map (λ e. e.0) xs ≡ map (λ e. e.0) ys → Each (λ e. P e.0) ys → Each (λ e. P e.0) xs
-each_key P [] ys h all = tt
-each_key P (x ∷ xs) [] h all = cc
-each_key P (x ∷ xs) (y ∷ ys) h all = (subst P (sym (first x.0 y.0 (map (λ e. e.0) xs) (map (λ e. e.0) ys) h)) all.0, each_key P xs ys (rest x.0 y.0 (map (λ e. e.0) xs) (map (λ e. e.0) ys) h) all.1)
-  where
-    first : (k l : EntityKey) (ks ls : List EntityKey) → k ∷ ks ≡ l ∷ ls → k ≡ l
-    first k l ks ls e = cc
-
-    rest : (k l : EntityKey) (ks ls : List EntityKey) → k ∷ ks ≡ l ∷ ls → ks ≡ ls
-    rest k l ks ls e = cc
 
 module _ (t : Option Tables) (n : ℕ) (state : State) (s : Snapshot) (is : IsState state) (taken : IsTaken s) (fits : s.feed < 16) (cached : AreCached t state.index (feed_of state))
     (rows : List PairRow) (alike : AreAlike rows (rows_held (lasts_then s (feed_of state)))) (local paired bounded peaked : List EntityKey) (touched : AreTouched state s local paired bounded peaked)
@@ -160,26 +142,21 @@ module _ (t : Option Tables) (n : ℕ) (state : State) (s : Snapshot) (is : IsSt
       go m (Some b) = refl
 
   there_feed : (f : ℕ) → Each (λ e. e.0.feed ≡ f) (there f)
-  there_feed f = subst (λ (es : List Keyed). Each (λ e. e.0.feed ≡ f) es) (snapshot_entities f (header_at mid.headers f).moment (held_at last f).bytes) (keys_feed f (feed_of next f).last (last_of f))
+  there_feed f = subst (λ (es : List Keyed). Each (λ e. e.0.feed ≡ f) es) (snapshot_entities f (header_at mid.headers f).moment (held_at last f).bytes) (of-feed f (feed_of next f).last (last_of f))
 
   there_apart : (f : ℕ) → AreApart (there f)
   there_apart f = subst (λ (es : List Keyed). AreApart es) (snapshot_entities f (header_at mid.headers f).moment (held_at last f).bytes) (keys_apart (feed_of next f).last)
 
   -- each entity has the lists of now
   parts_then : (f : ℕ) → (held_at last f).parts ≡ map {B = EntityKey × Lists} (λ e. (e.0, now_lists e.0 e.1)) (there f)
-  parts_then f =
-      same_entries (held_at last f).parts (map {B = EntityKey × Lists} (λ e. (e.0, now_lists e.0 e.1)) (there f)) (keys_then f ∙ sym (map-map (λ (e : Keyed). let d : EntityKey × Lists = (e.0, now_lists e.0 e.1) in d) (λ c. c.0) (there f)))
-      (keys-apart (there f) (held_at last f).parts (sym (keys_then f)) (there_apart f))
-      (each_key (λ k. at_key k (held_at last f).parts ≡ at_key k (map {B = EntityKey × Lists} (λ e. (e.0, now_lists e.0 e.1)) (there f))) (held_at last f).parts (there f) (keys_then f)
-      (each_weaken (λ (e : Keyed). e.0.feed ≡ f) (λ e. at_key e.0 (held_at last f).parts ≡ at_key e.0 (map {B = EntityKey × Lists} (λ e. (e.0, now_lists e.0 e.1)) (there f))) (λ e h. one e.0 h) (there f) (there_feed f)))
+  parts_then f = lists_are f now_lists (held_at last f).parts (there f) (keys_then f) (there_apart f) (there_feed f) one
     where
-      one : (k : EntityKey) → k.feed ≡ f → at_key k (held_at last f).parts ≡ at_key k (map {B = EntityKey × Lists} (λ e. (e.0, now_lists e.0 e.1)) (there f))
+      one : (k : EntityKey) → k.feed ≡ f → at_key k (held_at last f).parts ≡ option_map (now_lists k) (payload_under k (there f))
       one k h =
           ap (λ g. at_key k (held_at last g).parts) (sym h)
           ∙ lists_last t n state s is taken fits cached rows alike (peak_of mid.peaks) into.peaks_are local paired bounded peaked touched mid.index last placed before after judged k
           ∙ ap (option_map (now_lists k)) (sym (payload_last t n state s is taken fits cached rows alike (peak_of mid.peaks) into.peaks_are local paired bounded peaked touched mid.index last placed before after judged k))
           ∙ ap (λ g. option_map (now_lists k) (payload_under k (entities_before g (held_at last g).bytes))) h
-          ∙ sym (at-mapped now_lists (there f) k)
 
   -- the whole of them is the whole renewed
   whole_now : (f : ℕ) (x : Snapshot) → (later f).last ≡ Some x → (e : Keyed) → e.0.feed ≡ f → whole_of (now_lists e.0 e.1) ≡ renewed (list_under e.0 (feeds f).entities) n (entity_found t (gathered_held later) x e)

@@ -1,6 +1,8 @@
 -- Parts can be judged under the keys that a snapshot touches: entities are there, and their lists are in order.
 use Rattle.std.specs.Prelude.{◌≡◌, ℕ, zero, suc, ◌<◌, ◌==◌, ◌&&◌, ◌||◌, not, Bool, true, false, List, Option, Some, None, option_map, is_some, unwrap_or, refl}
 use Rattle.std.proofs.Common.{sym, ap, ◌∙◌, subst}
+use Rattle.std.proofs.Math.Bool.{and-false}
+use Rattle.std.proofs.lemmas.Bool.{true≢false}
 use Rattle.feed_values.specs.Snapshot.{entity_of}
 use Rattle.timetable.specs.Timetables.{Tables}
 use Rattle.rule_table.specs.declared.key.EntityKey.{EntityKey}
@@ -37,31 +39,24 @@ in_order_held t index feeds cached k (suc (suc (suc n))) = subst (Rises found_cm
 
 module _ (t : Option Tables) (state : State) (s : Snapshot) (is : IsState state) (taken : IsTaken s) (fits : s.feed < 16) (cached : AreCached t state.index (feed_of state))
     (local paired bounded peaked : List EntityKey) (touched : AreTouched state s local paired bounded peaked) (first : List HeldEntities) (placed : IsExchanged s.feed s.bytes state.index first) where
-  clash : {P : Type 0} → true ≡ false → P
-  clash e = cc
-
   some_or : (o : Option (List ℕ)) → (o ≡ None → ⊥) → is_some o ≡ true
   some_or None h = absurd (h refl)
   some_or (Some p) h = refl
 
   fresh_there : (k : EntityKey) → is_fresh_key state s k ≡ true → payload_at first k ≡ None → ⊥
   fresh_there k h none = by_feed state s is first placed k
-      (λ q. clash (sym h ∙ fresh_none s.feed (bytes_before state s.feed) s.bytes k (sym (payload_here state s is first placed k q) ∙ none)))
-      (λ q. clash (sym h ∙ fresh_far s.feed (bytes_before state s.feed) s.bytes k q))
+      (λ q. absurd (true≢false (sym h ∙ fresh_none s.feed (bytes_before state s.feed) s.bytes k (sym (payload_here state s is first placed k q) ∙ none))))
+      (λ q. absurd (true≢false (sym h ∙ fresh_far s.feed (bytes_before state s.feed) s.bytes k q)))
 
   none_then : (k : EntityKey) → payload_at first k ≡ None → entity_at (lasts_then s (feed_of state)) k ≡ None
   none_then k none = entity_then state s is taken fits k ∙ ap (option_map entity_of) (then_payload state s is first placed k ∙ none)
 
   paired_there : (k : EntityKey) → is_paired_then state s k ≡ true → payload_at first k ≡ None → ⊥
-  paired_there k h none = clash (sym h ∙ ap (λ o. is_paired (rows_held (feed_of state)) (rows_held (lasts_then s (feed_of state))) (rows_under k o)) (none_then k none))
+  paired_there k h none = absurd (true≢false (sym h ∙ ap (λ o. is_paired (rows_held (feed_of state)) (rows_held (lasts_then s (feed_of state))) (rows_under k o)) (none_then k none)))
 
   over_there : (k : EntityKey) (bound : Option ℕ) → is_over_then state s bound k ≡ true → payload_at first k ≡ None → ⊥
-  over_there k None h none = clash (sym h)
-  over_there k (Some b) h none = clash (sym h ∙ ap (λ o. (k.feed == s.feed) && gives_later b o) (none_then k none) ∙ and_none (k.feed == s.feed))
-    where
-      and_none : (b : Bool) → (b && false) ≡ false
-      and_none true = refl
-      and_none false = refl
+  over_there k None h none = absurd (true≢false (sym h))
+  over_there k (Some b) h none = absurd (true≢false (sym h ∙ ap (λ o. (k.feed == s.feed) && gives_later b o) (none_then k none) ∙ and-false (k.feed == s.feed)))
 
   choose : (a b : Bool) → (a ≡ true → ⊥) → (b ≡ true → ⊥) → (a || b) ≡ true → ⊥
   choose true b p q h = p refl
@@ -69,7 +64,7 @@ module _ (t : Option Tables) (state : State) (s : Snapshot) (is : IsState state)
 
   second : (a b : Bool) → (b ≡ true → ⊥) → (a && b) ≡ true → ⊥
   second true b q h = q h
-  second false b q h = clash (sym h)
+  second false b q h = absurd (true≢false (sym h))
 
   bounded_there : (k : EntityKey) → is_among bounded k ≡ true → payload_at first k ≡ None → ⊥
   bounded_there k m none =
@@ -80,11 +75,7 @@ module _ (t : Option Tables) (state : State) (s : Snapshot) (is : IsState state)
 
   peaked_there : (k : EntityKey) → is_peaked_then state s k ≡ true → payload_at first k ≡ None → ⊥
   peaked_there k h none =
-      clash (sym h ∙ ap (λ o. (k.feed == s.feed) && gives_moved (feed_of state s.feed).peaks (peaks_after s (feed_of state) s.feed) o) (none_then k none) ∙ and_none (k.feed == s.feed))
-    where
-      and_none : (b : Bool) → (b && false) ≡ false
-      and_none true = refl
-      and_none false = refl
+      absurd (true≢false (sym h ∙ ap (λ o. (k.feed == s.feed) && gives_moved (feed_of state s.feed).peaks (peaks_after s (feed_of state) s.feed) o) (none_then k none) ∙ and-false (k.feed == s.feed)))
 
   ordered_first : (k : EntityKey) (part : ℕ) → IsInOrder (list_under first k part)
   ordered_first k part = subst (λ (x : Option Lists). IsInOrder (list_of (unwrap_or x no_lists) part)) (sym (lists_placed state s is first placed k)) (go (payload_at first k))

@@ -1,12 +1,11 @@
 -- A snapshot in its place: what is under each key then.
-use Rattle.std.specs.Prelude.{◌≡◌, ℕ, ◌<◌, ◌==◌, nat_le, not, Bool, true, false, List, [], Option, Some, None, option_map, is_some, unwrap_or, bytes_eq, if◌then◌else◌, refl}
+use Rattle.std.specs.Prelude.{◌≡◌, ℕ, ◌<◌, ◌≤◌, ◌==◌, nat_le, Bool, true, false, List, [], Option, Some, None, option_map, is_some, unwrap_or, if◌then◌else◌, refl}
 use Rattle.std.proofs.Common.{sym, ap, ◌∙◌, subst, arith}
-use Rattle.std.proofs.lemmas.Slice.Eq.{bytes_eq-Decides}
 use borrow.Author.Tests.{eqb-true, eq-eqb, leb-true, leb-false}
 use Rattle.rule_table.specs.declared.key.EntityKey.{EntityKey}
 use Rattle.rule_history.specs.History.{Snapshot, entities_in, entities_of_snapshot, feed_limit, feed_limit-is}
 use Rattle.rule_history.specs.Answered.{payload_under}
-use Rattle.rule_history.specs.Changed.{is_payload}
+use Rattle.rule_history.proofs.SameSnapshots.{same_payload}
 use Rattle.touched_entities.specs.entity_index.Held.{HeldEntities, entities_before, held_at, parts_at}
 use Rattle.touched_entities.specs.entity_index.Lists.{Lists, no_lists}
 use Rattle.touched_entities.specs.entity_index.AtKeyProofs.{keys-some}
@@ -23,14 +22,19 @@ some_same d None (Some y) h = cc
 some_same d (Some x) None h = cc
 some_same d (Some x) (Some y) h = refl
 
--- a payload that isn't another is there
-pub not_other : (p : List ℕ) (o : Option (List ℕ)) → not (is_payload p o) ≡ false → o ≡ Some p
-not_other p None h = cc
-not_other p (Some q) h = ap Some (sym ((bytes_eq-Decides p q).0 (flip (bytes_eq p q) h)))
+-- where only the feeds of an engine have entities, one that is there is of these
+pub of_few : (old : List HeldEntities) → ((f : ℕ) → 16 ≤ f → (held_at old f).bytes ≡ None) → (k : EntityKey) (p : List ℕ) → payload_at old k ≡ Some p → k.feed < feed_limit
+of_few old few k p h = subst (λ n. k.feed < n) (sym feed_limit-is) (within (nat_le 16 k.feed) refl)
   where
-    flip : (b : Bool) → not b ≡ false → b ≡ true
-    flip true k = refl
-    flip false k = cc
+    within : (b : Bool) → nat_le 16 k.feed ≡ b → k.feed < 256
+    within false q = less k.feed (leb-false 16 k.feed q)
+      where
+        less : (f : ℕ) → f < 16 → f < 256
+        less f l = omega arith
+    within true q = absurd (never (sym (ap (λ o. payload_under k (entities_before k.feed o)) (few k.feed (leb-true 16 k.feed q))) ∙ h))
+      where
+        never : payload_under k [] ≡ Some p → ⊥
+        never e = cc
 
 module _ (state : State) (s : Snapshot) (is : IsState state) (next : List HeldEntities) (placed : IsExchanged s.feed s.bytes state.index next) where
   abbrev old : List HeldEntities
@@ -67,7 +71,7 @@ module _ (state : State) (s : Snapshot) (is : IsState state) (next : List HeldEn
   pub was_there : (k : EntityKey) (p : List ℕ) → payload_at next k ≡ Some p → is_fresh_key state s k ≡ false → payload_at old k ≡ Some p
   was_there k p h fresh = by_feed k
       (λ q. ap (λ f. payload_under k (entities_before f (held_at old f).bytes)) q
-      ∙ not_other p (payload_under k (entities_before s.feed (bytes_before state s.feed))) (sym (fresh_is s.feed (bytes_before state s.feed) s.bytes k p (sym (payload_here k q) ∙ h)) ∙ fresh))
+      ∙ same_payload p (payload_under k (entities_before s.feed (bytes_before state s.feed))) (sym (fresh_is s.feed (bytes_before state s.feed) s.bytes k p (sym (payload_here k q) ∙ h)) ∙ fresh))
       (λ q. sym (payload_far k q) ∙ h)
 
   -- ---- by the last snapshots of the feeds
@@ -91,14 +95,4 @@ module _ (state : State) (s : Snapshot) (is : IsState state) (next : List HeldEn
 
   -- an entity that was there is of one of the feeds
   pub of_limit : (k : EntityKey) (p : List ℕ) → payload_at old k ≡ Some p → k.feed < feed_limit
-  of_limit k p h = subst (λ n. k.feed < n) (sym feed_limit-is) (within (nat_le 16 k.feed) refl)
-    where
-      within : (b : Bool) → nat_le 16 k.feed ≡ b → k.feed < 256
-      within false q = less k.feed (leb-false 16 k.feed q)
-        where
-          less : (f : ℕ) → f < 16 → f < 256
-          less f l = omega arith
-      within true q = absurd (never (sym (ap (λ o. payload_under k (entities_before k.feed o)) (is.few k.feed (leb-true 16 k.feed q))) ∙ h))
-        where
-          never : payload_under k [] ≡ Some p → ⊥
-          never e = cc
+  of_limit = of_few old is.few

@@ -1,7 +1,8 @@
 -- A snapshot judged part by part: each list of each entity is renewed by what its part finds there.
-use Rattle.std.specs.Prelude.{◌≡◌, ℕ, ◌<◌, ◌==◌, ◌&&◌, ◌||◌, Bool, true, false, List, [], Option, Some, None, option_map, unwrap_or, cond, refl}
+use Rattle.std.specs.Prelude.{◌≡◌, ℕ, ◌<◌, ◌==◌, ◌&&◌, Bool, true, false, List, [], Option, Some, None, option_map, unwrap_or, cond, refl}
 use Rattle.std.proofs.Common.{sym, ap, ◌∙◌, subst, arith, eq-eqb}
 use Rattle.std.proofs.lemmas.Bool.Decides.{nat_tests}
+use Rattle.std.proofs.lemmas.Bool.{or_parts, and_right, or_from, true≢false}
 use borrow.Author.Tests.{eqb-true}
 use Rattle.feed_values.specs.Schema.{Value}
 use Rattle.feed_values.specs.Messages.{entity}
@@ -21,7 +22,6 @@ use Rattle.engine_laws.specs.Standings.{findings_of, renewed}
 use Rattle.engine_laws.proofs.Pairing.{pairing_keeps}
 use Rattle.engine_laws.proofs.Peaking.{not_moved}
 use Rattle.engine_laws.proofs.Since.{findings-renewed}
-use Rattle.engine_laws.proofs.Spots.{or_false}
 use Rattle.touched_entities.specs.part_laws.Touched.{is_among}
 use Rattle.touched_entities.specs.entity_index.Held.{HeldEntities}
 use Rattle.touched_entities.specs.entity_index.Lists.{Lists, no_lists, list_of, with_list}
@@ -52,13 +52,6 @@ found_rises find rises k (Some p) = rises k (entity_of p)
 pub by_rises : (last : Option Snapshot) (k : EntityKey) (e : Value entity) → Rises found_cmp (bounded_by last k e)
 by_rises None k e = tt
 by_rises (Some s) k e = bounded_rises (timestamp_of (header_of s.bytes)) s.moment k e
-
-or_neither : (a b : Bool) → a ≡ false → b ≡ false → (a || b) ≡ false
-or_neither a b p q = cc
-
-and_neither : (a b : Bool) → b ≡ false → (a && b) ≡ false
-and_neither true b q = q
-and_neither false b q = refl
 
 module _ (t : Option Tables) (n : ℕ) (state : State) (s : Snapshot) (is : IsState state) (taken : IsTaken s) (fits : s.feed < 16) (cached : AreCached t state.index (feed_of state))
     (rows : List PairRow) (alike : AreAlike rows (rows_held (lasts_then s (feed_of state)))) (peaks : PeakMap) (raised : (f : ℕ) (vehicle : List ℕ) → peaks f vehicle ≡ peaks_after s (feed_of state) f vehicle) (local paired bounded peaked : List EntityKey)
@@ -152,7 +145,7 @@ module _ (t : Option Tables) (n : ℕ) (state : State) (s : Snapshot) (is : IsSt
 
   paired_stays : (k : EntityKey) → is_among paired k ≡ false → findings_of (list_under judged.second k 1) ≡ found_under paired_now judged.second k
   paired_stays k h =
-      let neither = or_false (is_fresh_key state s k) (is_paired_then state s k) (sym (touched.paired_are.among k) ∙ h) in
+      let neither = or_parts (is_fresh_key state s k) (is_paired_then state s k) (sym (touched.paired_are.among k) ∙ h) in
       ap findings_of (other_list 0 1 (λ l xs. refl) _ (lists_at first k) (lists_at judged.second k) (second_lists k))
       ∙ kept 1 (paired_found (rows_held feeds)) paired_now refl cached.paired_are k neither.0 (paired_agrees k neither.1)
       ∙ ap (found_in paired_now k) (sym (payload_second k))
@@ -174,8 +167,8 @@ module _ (t : Option Tables) (n : ℕ) (state : State) (s : Snapshot) (is : IsSt
   bounded_here : (k : EntityKey) → (s.feed == k.feed) ≡ false → is_among bounded k ≡ false
   bounded_here k h =
       touched.bounded_are.keys_are.among k
-      ∙ or_neither _ _ (fresh_far s.feed (bytes_before state s.feed) s.bytes k h)
-      (and_neither _ _ (or_neither _ _ (never touched.bounded_are.before) (never (Some touched.bounded_are.now))))
+      ∙ or_from _ _ (fresh_far s.feed (bytes_before state s.feed) s.bytes k h)
+      (and_right _ _ (or_from _ _ (never touched.bounded_are.before) (never (Some touched.bounded_are.now))))
     where
       turned : (a b : ℕ) → (b == a) ≡ false → (a == b) ≡ false
       turned a b e = grind (arith, nat_tests)
@@ -187,18 +180,15 @@ module _ (t : Option Tables) (n : ℕ) (state : State) (s : Snapshot) (is : IsSt
   bounded_same : (k : EntityKey) → is_among bounded k ≡ true → found_under (bounded_found (timestamp_of (header_of s.bytes)) s.moment) judged.third k ≡ found_under bounded_now judged.third k
   bounded_same k m = by_feed state s is first placed k
       (λ h. go (payload_at judged.third k) (last_here state s is first placed k.feed (sym h)))
-      (λ h. absurd (never (sym m ∙ bounded_here k h)))
+      (λ h. absurd (true≢false (sym m ∙ bounded_here k h)))
     where
-      never : true ≡ false → ⊥
-      never e = cc
-
       go : (o : Option (List ℕ)) → (later k.feed).last ≡ Some s → found_in (bounded_found (timestamp_of (header_of s.bytes)) s.moment) k o ≡ found_in bounded_now k o
       go None h = refl
       go (Some p) h = sym (ap (λ last. bounded_by last k (entity_of p)) h)
 
   bounded_beside : (k : EntityKey) → is_among bounded k ≡ false → findings_of (list_under judged.third k 2) ≡ found_under bounded_now judged.third k
   bounded_beside k h =
-      let fresh = (or_false (is_fresh_key state s k) _ (sym (touched.bounded_are.keys_are.among k) ∙ h)).0 in
+      let fresh = (or_parts (is_fresh_key state s k) _ (sym (touched.bounded_are.keys_are.among k) ∙ h)).0 in
       ap findings_of (other_list 1 2 (λ l xs. refl) _ (lists_at judged.second k) (lists_at judged.third k) (third_lists k))
       ∙ ap findings_of (other_list 0 2 (λ l xs. refl) _ (lists_at first k) (lists_at judged.second k) (second_lists k))
       ∙ kept 2 (bounded_in feeds) bounded_now refl cached.bounded_are k fresh
@@ -233,7 +223,7 @@ module _ (t : Option Tables) (n : ℕ) (state : State) (s : Snapshot) (is : IsSt
 
   peaked_beside : (k : EntityKey) → is_among peaked k ≡ false → findings_of (list_under judged.fourth k 3) ≡ found_under peaked_now judged.fourth k
   peaked_beside k h =
-      let neither = or_false (is_fresh_key state s k) (is_peaked_then state s k) (sym (touched.peaked_are.among k) ∙ h) in
+      let neither = or_parts (is_fresh_key state s k) (is_peaked_then state s k) (sym (touched.peaked_are.among k) ∙ h) in
       ap findings_of (other_list 2 3 (λ l xs. refl) _ (lists_at judged.third k) (lists_at judged.fourth k) (fourth_lists k))
       ∙ ap findings_of (other_list 1 3 (λ l xs. refl) _ (lists_at judged.second k) (lists_at judged.third k) (third_lists k))
       ∙ ap findings_of (other_list 0 3 (λ l xs. refl) _ (lists_at first k) (lists_at judged.second k) (second_lists k))

@@ -120,7 +120,7 @@ impl EngineAsks {
                 self.engine = Some(boxed(self.alloc, table)?);
                 Ok(())
             }
-            Err(fault) => say(out, format!(in self.alloc; "{fault}")?.as_str()),
+            Err(fault) => say(out, format!(in self.alloc; "{fault:?}")?.as_str()),
         }
     }
 
@@ -135,7 +135,7 @@ impl EngineAsks {
     fn exchange(&mut self, folder: &str, out: &mut Vec<u8>) -> Result<(), AllocError> {
         match Timetable::load(self.alloc, &mut self.files, folder) {
             Ok(table) => self.turn_to(table, out),
-            Err(fault) => say(out, format!(in self.alloc; "{fault}")?.as_str()),
+            Err(fault) => say(out, format!(in self.alloc; "{fault:?}")?.as_str()),
         }
     }
 

@@ -1,15 +1,8 @@
 //! Keys of entities in text.
 
-use feed_values::{Items, Text};
+use feed_values::Items;
 use rule_table::EntityKey;
 use std::alloc::{AllocError, Global};
-
-/// A text of its own.
-pub fn text_of(alloc: Global, text: &str) -> Result<Text, AllocError> {
-    let mut owned = Text::new(alloc);
-    owned.push(text)?;
-    Ok(owned)
-}
 
 /// A key as `FEED/ID/OCCURRENCE`.
 pub fn key_text(alloc: Global, key: &EntityKey) -> Result<String, AllocError> {

@@ -7,7 +7,7 @@ use feed_values::{Entity, Path};
 use message_rules::MessageGroup;
 use rt_outside::Steps;
 use rule_clear::LocalRule;
-use rule_table::{EntityKey, Finding, FindingList, Place};
+use rule_table::{EntityId, EntityKey, Finding, FindingList, Place};
 use std::alloc::{AllocError, Global};
 use std::marker::Brand;
 use std::sync::ledger::{Blank, Ledger};
@@ -21,7 +21,7 @@ fn judged<L: Ledger>(
 ) -> Result<FindingList, AllocError> {
     let key = EntityKey {
         feed: 0,
-        id: entity.id.clone(alloc)?,
+        id: EntityId::of(alloc, entity.id.as_str())?,
         occurrence: 1,
     };
     let mut out = FindingList::new(alloc);

@@ -1,10 +1,10 @@
 //! Asks of an index of pairing rows.
 
-use crate::keys::{key_text, keys_text, text_of};
+use crate::keys::{key_text, keys_text};
 use cases::{say, word, word_list};
 use feed_values::Text;
 use pairing_rules::{PairIndex, PairRow};
-use rule_table::{Kind, PairView};
+use rule_table::{EntityId, Kind, PairView};
 use std::alloc::{AllocError, Global};
 use std::mem;
 
@@ -21,7 +21,7 @@ fn given(alloc: Global, id: &str) -> Result<Option<Text>, AllocError> {
     if id == "-" {
         return Ok(None);
     }
-    Ok(Some(text_of(alloc, id)?))
+    Ok(Some(Text::of(alloc, id)?))
 }
 
 fn kind_of(word: &str) -> Kind {
@@ -36,7 +36,7 @@ fn row_of(alloc: Global, words: &[String]) -> Result<PairRow, AllocError> {
     Ok(PairRow {
         kind: kind_of(word(words, 2)),
         feed: word(words, 3).parse().unwrap_or(0),
-        id: text_of(alloc, word(words, 4))?,
+        id: EntityId::of(alloc, word(words, 4))?,
         occurrence: word(words, 5).parse().unwrap_or(0),
         trip: given(alloc, word(words, 6))?,
         vehicle: given(alloc, word(words, 7))?,

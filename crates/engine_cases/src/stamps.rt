@@ -1,9 +1,9 @@
 //! Asks of an index of timestamps.
 
-use crate::keys::{keys_text, text_of};
+use crate::keys::keys_text;
 use cases::{number, say, word};
 use history_rules::StampIndex;
-use rule_table::EntityKey;
+use rule_table::{EntityId, EntityKey};
 use std::alloc::{AllocError, Global};
 use std::mem;
 
@@ -22,7 +22,7 @@ fn feed_of(words: &[String]) -> u8 {
 fn key_of(alloc: Global, words: &[String]) -> Result<EntityKey, AllocError> {
     Ok(EntityKey {
         feed: feed_of(words),
-        id: text_of(alloc, word(words, 3))?,
+        id: EntityId::of(alloc, word(words, 3))?,
         occurrence: 0,
     })
 }

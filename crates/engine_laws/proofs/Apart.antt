@@ -84,7 +84,7 @@ held-header : (f : ℕ) (test : Found → Bool) → ((x : Found) → test x ≡ 
 held-header f test sees held home = first-only test held.header (flat_map (λ c. c.1) held.entities) (none_on f test sees held.entities home.under_keys)
 
 -- ---- all that a feed has is at the feed
-findings-append : (xs ys : List Standing) → findings_of (xs ++ ys) ≡ findings_of xs ++ findings_of ys
+pub findings-append : (xs ys : List Standing) → findings_of (xs ++ ys) ≡ findings_of xs ++ findings_of ys
 findings-append xs ys = map-append (λ x. x.finding) xs ys
 
 all_append : (P : Place → Type 0) (xs ys : List Standing) → Each (λ x. P x.place) (findings_of xs) → Each (λ x. P x.place) (findings_of ys) → Each (λ x. P x.place) (findings_of (xs ++ ys))

@@ -19,7 +19,6 @@ use Rattle.std.proofs.lemmas.List.Folds.{flat_map-map}
 use Rattle.std.proofs.lemmas.Bool.{and_parts}
 use Rattle.timetable.specs.Timetables.{Tables}
 use Rattle.rule_table.specs.declared.rule.RuleId.{RuleId}
-use Rattle.rule_table.specs.declared.rule.RuleId.TheVariants.{E001}
 use Rattle.rule_table.specs.declared.ask.Ask.{Ask}
 use Rattle.rule_table.specs.declared.fact.Fact.{Fact}
 use Rattle.rule_table.specs.declared.key.EntityKey.{EntityKey}
@@ -35,7 +34,7 @@ use Rattle.rule_table.specs.Passed.{passes}
 use Rattle.rule_table.specs.Found.{Found}
 use Rattle.rule_table.specs.Judged.{found_of, found_at, found_below, found_in, found_by, found_all, found_on, head_found_by, head_found_all, places_at}
 use Rattle.rule_table.specs.Groups.{Each, IsOn, IsUnder}
-use Rattle.rule_table.specs.GroupLaws.{each_append, each_weaken, rise}
+use Rattle.rule_table.specs.GroupLaws.{each_append, each_weaken, rise, slots_rise}
 use Rattle.rule_history.specs.Standing.{same_spot}
 use Rattle.rule_table.specs.Answers.{Gathered}
 use Rattle.rule_history.specs.History.{Snapshot, Keyed, now, before, entities_in, feed_limit}
@@ -185,10 +184,6 @@ module _ (rule : RuleId) (answer : Ask → Option CellValue) (key : EntityKey) w
 
       over : (a b c : ℕ) → b ≡ a → a + 1 ≤ c → b < c
       over a b c h m = omega arith
-
-pub slots_rise : (rule : RuleId) → rise 0 (slots_of rule) ≡ true
-slots_rise E001 = refl
-slots_rise _ = refl
 
 pub row_rule : (rule : RuleId) (answer : Ask → Option CellValue) (key : EntityKey) (e : Value entity) → Each (λ x. x.rule ≡ rule) (found_by rule answer key e)
 row_rule rule answer key e =

@@ -4,6 +4,7 @@ use Rattle.std.proofs.Common.{sym, ◌∙◌, ap, subst, arith, eq-eqb, append-n
 use Rattle.std.proofs.lemmas.Bool.Decides.{nat_tests}
 use borrow.Author.Tests.{eqb-true}
 use Rattle.std.proofs.Math.Seq.{take-length}
+use Rattle.std.proofs.lemmas.Bool.{or_left, or_right}
 use Rattle.feed_values.specs.Snapshot.{entity_payloads}
 use Rattle.timetable.specs.Timetables.{Tables}
 use Rattle.rule_table.specs.Found.{Found}
@@ -19,7 +20,7 @@ use Rattle.engine_laws.proofs.Longer.{now-same, now-other}
 use Rattle.engine_laws.proofs.Seats as seats
 use Rattle.engine_laws.proofs.Since.{since_stays, since_starts}
 use Rattle.engine_laws.proofs.Sizes.{each_map, entities_at}
-use Rattle.engine_laws.proofs.Spots.{or_left, or_right, spot_self}
+use Rattle.engine_laws.proofs.Spots.{spot_self}
 use Rattle.engine_laws.proofs.Proved.{no_findings}
 
 -- ---- since

@@ -8,12 +8,13 @@ use Rattle.rule_table.specs.declared.key.EntityKey.{EntityKey}
 use Rattle.rule_table.specs.Found.{Found}
 use Rattle.rule_table.specs.Groups.{Each, IsOn, IsUnder}
 use Rattle.rule_table.specs.GroupLaws.{each_weaken}
+use Rattle.rule_table.specs.CitedLaws.{both_same}
 use Rattle.rule_history.specs.History.{below, feed_limit}
 use Rattle.rule_history.specs.Standing.{Standing, Spot, same_spot, same_finding, stands, was, opened, closed, spots_of}
 use Rattle.engine_laws.specs.HeldFeeds.{KeyedLists, HeldFeed, AreOn, AreUnder, IsOwn, KeyedFindings, found_list, AreFoundAt, list_under, feed_list, joined, renewed_lists, opened_in, closed_in}
 use Rattle.engine_laws.specs.Standings.{findings_of, since_in, renewed}
-use Rattle.engine_laws.proofs.Apart.{having-header, having-entity}
-use Rattle.engine_laws.proofs.Lists.{both, each_of_map, filter-same}
+use Rattle.engine_laws.proofs.Apart.{findings-append, having-header, having-entity}
+use Rattle.engine_laws.proofs.Lists.{each_of_map, filter-same}
 use Rattle.engine_laws.proofs.Since.{renewed-append, renewed-same}
 use Rattle.engine_laws.proofs.Spots.{having, first_since, is_some_one, since-having, any-having, was-having, spot_on, spot_under}
 
@@ -21,9 +22,6 @@ closed-append : (fs gs now : List Found) → closed (fs ++ gs) now ≡ closed fs
 closed-append fs gs now =
     ap spots_of (filter-append (λ f. not (stands now f)) fs gs)
     ∙ map-append (λ f. let r : Spot = record { rule = f.rule; place = f.place } in r) (filter (λ f. not (stands now f)) fs) (filter (λ f. not (stands now f)) gs)
-
-findings-append : (xs ys : List Standing) → findings_of (xs ++ ys) ≡ findings_of xs ++ findings_of ys
-findings-append xs ys = map-append (λ x. x.finding) xs ys
 
 module _ (feeds : ℕ → HeldFeed) (home : (f : ℕ) → IsOwn f (feeds f)) where
   -- ---- numbers
@@ -43,7 +41,7 @@ module _ (feeds : ℕ → HeldFeed) (home : (f : ℕ) → IsOwn f (feeds f)) whe
       flat_map (λ c. c.1) (renewed_lists (feeds f).entities n keyed) ≡ renewed (joined feeds) n (flat_map (λ c. c.1) keyed)
   lists-renewed f n l [] under of_feed = refl
   lists-renewed f n l (c ∷ keyed) under of_feed =
-      both
+      both_same
       (subst (λ g. renewed (list_under c.0 (feeds g).entities) n c.1 ≡ renewed (joined feeds) n c.1) of_feed.0
       (renewed-entity c.0 n c.1 (subst (λ g. g < feed_limit) (sym of_feed.0) l) under.0))
       (lists-renewed f n l keyed under.1 of_feed.1)
@@ -61,8 +59,8 @@ module _ (feeds : ℕ → HeldFeed) (home : (f : ℕ) → IsOwn f (feeds f)) whe
       go zero le = refl
       go (suc i) le =
           let l : i < feed_limit = omega arith in
-          both (go i (omega arith))
-          (both (hs i l ∙ renewed-header i n (headers i) l (own i l).head_on) (ap (flat_map (λ c. c.1)) (cs i l) ∙ lists-renewed i n l (keyed i) (own i l).under (own i l).of_feed)
+          both_same (go i (omega arith))
+          (both_same (hs i l ∙ renewed-header i n (headers i) l (own i l).head_on) (ap (flat_map (λ c. c.1)) (cs i l) ∙ lists-renewed i n l (keyed i) (own i l).under (own i l).of_feed)
           ∙ sym (renewed-append (joined feeds) n (headers i) (flat_map (λ c. c.1) (keyed i))))
           ∙ sym (renewed-append (joined feeds) n (below (λ f. found_list (headers f) (keyed f)) i) (found_list (headers i) (keyed i)))
 
@@ -99,7 +97,7 @@ module _ (feeds : ℕ → HeldFeed) (home : (f : ℕ) → IsOwn f (feeds f)) whe
   opened-lists g l [] under of_feed = refl
   opened-lists g l (c ∷ new) under of_feed =
       filter-append (λ x. not (was (findings_of (joined feeds)) x.finding)) c.1 (flat_map (λ c. c.1) new)
-      ∙ both (opened_same (list_under c.0 (feeds g).entities) c.1 (λ x. IsUnder c.0 x.place) (seen_entity c.0 g of_feed.0 l) under.0) (opened-lists g l new under.1 of_feed.1)
+      ∙ both_same (opened_same (list_under c.0 (feeds g).entities) c.1 (λ x. IsUnder c.0 x.place) (seen_entity c.0 g of_feed.0 l) under.0) (opened-lists g l new under.1 of_feed.1)
 
   closed-lists : (g : ℕ) → g < feed_limit → (old : KeyedLists) → Each (λ c. AreUnder c.0 (findings_of c.1)) old → Each (λ c. c.0.feed ≡ g) old →
       closed (findings_of (flat_map (λ c. c.1) old)) (findings_of (joined feeds)) ≡ flat_map (λ c. closed (findings_of c.1) (findings_of (list_under c.0 (feeds g).entities))) old
@@ -107,7 +105,7 @@ module _ (feeds : ℕ → HeldFeed) (home : (f : ℕ) → IsOwn f (feeds f)) whe
   closed-lists g l (c ∷ old) under of_feed =
       ap (λ fs. closed fs (findings_of (joined feeds))) (findings-append c.1 (flat_map (λ c. c.1) old))
       ∙ closed-append (findings_of c.1) (findings_of (flat_map (λ c. c.1) old)) (findings_of (joined feeds))
-      ∙ both (closed_same (list_under c.0 (feeds g).entities) (findings_of c.1) (λ x. IsUnder c.0 x.place) (seen_entity c.0 g of_feed.0 l) under.0) (closed-lists g l old under.1 of_feed.1)
+      ∙ both_same (closed_same (list_under c.0 (feeds g).entities) (findings_of c.1) (λ x. IsUnder c.0 x.place) (seen_entity c.0 g of_feed.0 l) under.0) (closed-lists g l old under.1 of_feed.1)
 
 -- ---- what opened and what closed
 module _ (old : ℕ → HeldFeed) (home : (f : ℕ) → IsOwn f (old f)) (new : ℕ → HeldFeed) (home' : (f : ℕ) → IsOwn f (new f)) where
@@ -119,9 +117,9 @@ module _ (old : ℕ → HeldFeed) (home : (f : ℕ) → IsOwn f (old f)) (new : 
       go (suc i) le =
           let l : i < feed_limit = omega arith in
           filter-append (λ x. not (was (findings_of (joined old)) x.finding)) (below (λ f. feed_list (new f)) i) (feed_list (new i))
-          ∙ both (go i (omega arith))
+          ∙ both_same (go i (omega arith))
           (filter-append (λ x. not (was (findings_of (joined old)) x.finding)) (new i).header (flat_map (λ c. c.1) (new i).entities)
-          ∙ both (opened_same old home (old i).header (new i).header (λ x. IsOn i x.place) (seen_header old home i l) (home' i).head_on)
+          ∙ both_same (opened_same old home (old i).header (new i).header (λ x. IsOn i x.place) (seen_header old home i l) (home' i).head_on)
           (opened-lists old home i l (new i).entities (home' i).under_keys (home' i).of_feed))
 
   pub closed_joined : closed (findings_of (joined old)) (findings_of (joined new)) ≡ below (λ f. closed_in (old f) (new f)) feed_limit
@@ -133,8 +131,8 @@ module _ (old : ℕ → HeldFeed) (home : (f : ℕ) → IsOwn f (old f)) (new : 
           let l : i < feed_limit = omega arith in
           ap (λ fs. closed fs (findings_of (joined new))) (findings-append (below (λ f. feed_list (old f)) i) (feed_list (old i)))
           ∙ closed-append (findings_of (below (λ f. feed_list (old f)) i)) (findings_of (feed_list (old i))) (findings_of (joined new))
-          ∙ both (go i (omega arith))
+          ∙ both_same (go i (omega arith))
           (ap (λ fs. closed fs (findings_of (joined new))) (findings-append (old i).header (flat_map (λ c. c.1) (old i).entities))
           ∙ closed-append (findings_of (old i).header) (findings_of (flat_map (λ c. c.1) (old i).entities)) (findings_of (joined new))
-          ∙ both (closed_same new home' (new i).header (findings_of (old i).header) (λ x. IsOn i x.place) (seen_header new home' i l) (home i).head_on)
+          ∙ both_same (closed_same new home' (new i).header (findings_of (old i).header) (λ x. IsOn i x.place) (seen_header new home' i l) (home i).head_on)
           (closed-lists new home' i l (old i).entities (home i).under_keys (home i).of_feed))

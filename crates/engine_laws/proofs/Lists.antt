@@ -5,15 +5,14 @@ use Rattle.std.proofs.Common.{inl, inr, ap, ◌∙◌, arith, subst, sym}
 use Rattle.std.proofs.Math.Nat.{eq-or-lt_of_le}
 use Rattle.std.proofs.lemmas.List.{map-append}
 use Rattle.std.proofs.lemmas.List.Elements.{filter-append}
+use Rattle.std.proofs.lemmas.Bool.{or_right}
 use Rattle.rule_table.specs.Groups.{Each}
-use Rattle.rule_table.specs.GroupLaws.{each_append, each_weaken, or_right}
+use Rattle.rule_table.specs.GroupLaws.{each_append, each_weaken}
+use Rattle.rule_table.specs.CitedLaws.{both_same}
 use Rattle.rule_history.specs.History.{below}
 use Rattle.std.specs.declared.cmp.Ordering.{Ordering}
 use Rattle.std.specs.declared.cmp.Ordering.TheVariants.{Less}
 use Rattle.engine_laws.specs.Order.{Rises}
-
-pub both : {A : Type 0} {a b c d : List A} → a ≡ b → c ≡ d → (a ++ c) ≡ (b ++ d)
-both h k = cc
 
 pub each_of_map : {A B : Type 0} (f : A → B) (P : B → Type 0) (xs : List A) → Each P (map f xs) → Each (λ x. P (f x)) xs
 each_of_map f P [] h = tt
@@ -46,7 +45,7 @@ map-below f part (suc n) = map-append f (below part n) (part n) ∙ ap (λ ys. y
 
 pub below-same : {A : Type 0} (one two : ℕ → List A) (n : ℕ) → ((g : ℕ) → g < n → one g ≡ two g) → below one n ≡ below two n
 below-same one two zero h = refl
-below-same one two (suc n) h = both (below-same one two n (λ g l. h g (omega arith))) (h n (omega arith))
+below-same one two (suc n) h = both_same (below-same one two n (λ g l. h g (omega arith))) (h n (omega arith))
 
 -- ---- a test that is true of one of some
 pub any_left : {A : Type 0} (p : A → Bool) (xs ys : List A) → list_any p xs ≡ true → list_any p (xs ++ ys) ≡ true
@@ -86,7 +85,7 @@ map-same {A} {B} f g (x ∷ xs) h = step h.0 (map-same f g xs h.1)
 
 pub flat-same : {A B : Type 0} (f g : A → List B) (xs : List A) → Each (λ x. f x ≡ g x) xs → flat_map f xs ≡ flat_map g xs
 flat-same f g [] h = refl
-flat-same f g (x ∷ xs) h = both h.0 (flat-same f g xs h.1)
+flat-same f g (x ∷ xs) h = both_same h.0 (flat-same f g xs h.1)
 
 -- a filter that nothing passes
 pub filter-none : {A : Type 0} (p : A → Bool) (xs : List A) → Each (λ x. p x ≡ false) xs → filter p xs ≡ []

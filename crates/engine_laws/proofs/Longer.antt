@@ -6,6 +6,7 @@ use Rattle.std.proofs.Common.{sym, ◌∙◌, ap, subst}
 use Rattle.std.proofs.lemmas.List.{reverse-append}
 use Rattle.std.proofs.lemmas.List.Elements.{filter-append}
 use Rattle.std.proofs.lemmas.List.Folds.{flat_map-map}
+use Rattle.std.proofs.lemmas.Option.{same_Some}
 use borrow.Author.Tests.{eqb-true}
 use Rattle.feed_values.specs.Snapshot.{entity_of}
 use Rattle.timetable.specs.Timetables.{Tables}
@@ -19,11 +20,12 @@ use Rattle.rule_table.specs.Groups.{Each}
 use Rattle.rule_table.specs.GroupLaws.{each_append}
 use Rattle.rule_history.specs.History.{Snapshot, Keyed, recent, first_of, second_of, now, before, entities, entities_in, entities_of_snapshot, below, feed_limit}
 use Rattle.rule_table.specs.Answers.{heads_answer, entity_answer, gathered_answer}
-use Rattle.rule_history.specs.Answered.{heads_of, timetable_answer, gathered, payload_under, feed_answer, answer_under}
+use Rattle.rule_table.specs.CitedLaws.{both_same}
+use Rattle.rule_history.specs.Answered.{heads_of, timetable_answer, gathered, payload_under, shared_answer, feed_answer, answer_under}
 use Rattle.rule_history.specs.Findings.{findings, feed_findings, entity_findings}
 use Rattle.rule_history.specs.Changed.{with}
 use Rattle.engine_laws.specs.HeldFeeds.{head_found, held_answer, entity_found, entities_found, feed_found}
-use Rattle.engine_laws.proofs.Lists.{both, below-same, flat-same}
+use Rattle.engine_laws.proofs.Lists.{below-same, flat-same}
 use Rattle.engine_laws.proofs.Sorted.{entities_rise, entities_feed, apart_rising, found_under}
 use Rattle.engine_laws.proofs.AtHand.{heads_first, is_held, heads_limits}
 
@@ -61,10 +63,7 @@ each_reversed P (x ∷ xs) h = subst (Each P) (sym (reverse-append (x ∷ []) xs
 
 first_each : {A : Type 0} (P : A → Type 0) (xs : List A) (s : A) → Each P xs → first_of xs ≡ Some s → P s
 first_each P [] s h e = cc
-first_each {A} P (x ∷ xs) s h e = subst P (is x s e) h.0
-  where
-    is : (x s : A) → Some x ≡ Some s → x ≡ s
-    is x s e = cc
+first_each {A} P (x ∷ xs) s h e = subst P (same_Some x s e) h.0
 
 pub now-feed : (h : List Snapshot) (f : ℕ) (s : Snapshot) → now h f ≡ Some s → s.feed ≡ f
 now-feed h f s is =
@@ -81,8 +80,8 @@ now_each P h f s all is = first_each P (recent h f) s (each_reversed P (filter (
 
 -- ---- answers by what is at hand
 feed-answer : (t : Option Tables) (h : List Snapshot) (f : ℕ) (s : Snapshot) → now h f ≡ Some s → (a : Ask) →
-    feed_answer t h f a ≡ option_or (heads_answer (heads_of s (before h f)) a) (option_or (timetable_answer t a) (gathered_answer (gathered h) a))
-feed-answer t h f s is a = ap (option_and_then (λ s. option_or (heads_answer (heads_of s (before h f)) a) (option_or (timetable_answer t a) (gathered_answer (gathered h) a)))) is
+    feed_answer t h f a ≡ shared_answer t (gathered h) (heads_of s (before h f)) a
+feed-answer t h f s is a = ap (option_and_then (λ s. shared_answer t (gathered h) (heads_of s (before h f)) a)) is
 
 -- ---- findings by what is at hand
 module _ (t : Option Tables) (h : List Snapshot) (f : ℕ) (s : Snapshot) (is : now h f ≡ Some s) where
@@ -124,7 +123,7 @@ feed-found t h f = go (now h f) refl
   where
     go : (n : Option Snapshot) → now h f ≡ n → feed_findings t h f n ≡ feed_found t (gathered h) n (before h f)
     go None is = refl
-    go (Some s) is = both (head-found t h f s is) (entities-found t h f s is)
+    go (Some s) is = both_same (head-found t h f s is) (entities-found t h f s is)
 
 -- the findings after a history are those on each feed's header, judged with the header before, and those at each of its
 -- entities, judged with the header, the moment, the timetable, the rows of all entities and the peaks

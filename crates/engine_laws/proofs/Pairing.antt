@@ -2,18 +2,19 @@
 use Rattle.std.specs.Prelude.{◌≡◌, ℕ, ◌<◌, ◌||◌, Bool, true, false, cond, List, [], ◌∷◌, ◌++◌, Option, Some, option_map, refl, ◌⊎◌}
 use Rattle.std.specs.List.{list_any, find}
 use Rattle.std.proofs.Common.{inl, inr, sym, ◌∙◌, subst}
+use Rattle.std.proofs.lemmas.Bool.{or_parts, or_left}
 use Rattle.feed_values.specs.Schema.{Value}
 use Rattle.feed_values.specs.Messages.{entity}
 use Rattle.feed_values.specs.Snapshot.{entity_of}
 use Rattle.rule_table.specs.declared.kind.Kind.{Kind}
 use Rattle.rule_table.specs.declared.kind.Kind.TheVariants as kind
 use Rattle.rule_table.specs.declared.key.EntityKey.{EntityKey}
-use Rattle.rule_table.specs.Kinds.{same_kind}
 use Rattle.rule_table.specs.Order.{same_key}
 use Rattle.rule_table.specs.Found.{Found}
 use Rattle.rule_table.specs.Groups.{Each}
 use Rattle.rule_table.specs.Pairs.{PairRow, rows_of, is_of, any_row, shares}
 use Rattle.rule_table.specs.PairAgree.{Agree, AgreeOnRow}
+use Rattle.rule_table.proofs.SameAsks.{kind_same}
 use Rattle.rule_history.specs.History.{Snapshot, Keyed, now, entities_of_snapshot, below, feed_limit}
 use Rattle.rule_history.specs.Answered.{rows_in, payload_under}
 use Rattle.rule_history.specs.Changed.{with, changed_rows, other, differ, turns, is_paired}
@@ -21,7 +22,7 @@ use Rattle.engine_laws.specs.HeldFeeds.{IsLastOf}
 use Rattle.engine_laws.specs.Laws.{PairingStays, PairingKeeps}
 use Rattle.engine_laws.proofs.Lists.{any_left, any_right, any_below}
 use Rattle.engine_laws.proofs.Next.{last_now}
-use Rattle.engine_laws.proofs.Spots.{key_is, or_left, or_false}
+use Rattle.engine_laws.proofs.Spots.{key_is}
 use Rattle.engine_laws.proofs.Rows.{row_agrees, rows_rising}
 
 -- ---- a row of an entity is among all rows
@@ -47,10 +48,6 @@ either_kind kind.TripUpdate kind.Vehicle = inr refl
 either_kind kind.Vehicle kind.TripUpdate = inr refl
 either_kind kind.Vehicle kind.Vehicle = inl refl
 
-own_kind : (k : Kind) → same_kind k k ≡ true
-own_kind kind.TripUpdate = refl
-own_kind kind.Vehicle = refl
-
 not_differ : (a b : Bool) → differ a b ≡ false → a ≡ b
 not_differ true true h = refl
 not_differ true false h = cc
@@ -69,8 +66,8 @@ module _ (one two : ℕ → Option Snapshot) (of_one : (f : ℕ) → IsLastOf f 
   each_agrees : (mine : List PairRow) → is_paired u v mine ≡ false → Each (AgreeOnRow u v e.0.feed) mine
   each_agrees [] h = tt
   each_agrees (r ∷ mine) h =
-      let p = or_false (list_any (shares r) (changed_rows u v) || turns u v (other r.kind)) (is_paired u v mine) h in
-      let q = or_false (list_any (shares r) (changed_rows u v)) (turns u v (other r.kind)) p.0 in
+      let p = or_parts (list_any (shares r) (changed_rows u v) || turns u v (other r.kind)) (is_paired u v mine) h in
+      let q = or_parts (list_any (shares r) (changed_rows u v)) (turns u v (other r.kind)) p.0 in
       (row_agrees u v (rows_rising one of_one) (rows_rising two of_two) r q.0 e.0.feed, each_agrees mine p.1)
 
   kinds_agree : (r : PairRow) (mine : List PairRow) → rows_of e.0 (entity_of e.1) ≡ r ∷ mine → is_paired u v (r ∷ mine) ≡ false → (k : Kind) → any_row u k ≡ any_row v k
@@ -83,12 +80,12 @@ module _ (one two : ℕ → Option Snapshot) (of_one : (f : ℕ) → IsLastOf f 
       among : (last : ℕ → Option Snapshot) → payload_under e.0 (entities_of_snapshot (last e.0.feed)) ≡ Some e.1 → any_row (below (λ f. rows_in (entities_of_snapshot (last f))) feed_limit) r.kind ≡ true
       among last under =
           any_among (is_of r.kind) last e l under
-          (subst (λ rs. list_any (is_of r.kind) rs ≡ true) (sym is) (or_left (is_of r.kind r) (list_any (is_of r.kind) mine) (own_kind r.kind)))
+          (subst (λ rs. list_any (is_of r.kind) rs ≡ true) (sym is) (or_left (is_of r.kind r) (list_any (is_of r.kind) mine) (kind_same r.kind)))
 
       turned : turns u v (other r.kind) ≡ false
       turned =
-          (or_false (list_any (shares r) (changed_rows u v)) (turns u v (other r.kind))
-          (or_false (list_any (shares r) (changed_rows u v) || turns u v (other r.kind)) (is_paired u v mine) h).0).1
+          (or_parts (list_any (shares r) (changed_rows u v)) (turns u v (other r.kind))
+          (or_parts (list_any (shares r) (changed_rows u v) || turns u v (other r.kind)) (is_paired u v mine) h).0).1
 
   agrees : (r : PairRow) (mine : List PairRow) → rows_of e.0 (entity_of e.1) ≡ r ∷ mine → is_paired u v (r ∷ mine) ≡ false → Agree u v e.0 (entity_of e.1)
   agrees r mine is h = record {

@@ -2,6 +2,8 @@
 use Rattle.std.specs.Prelude.{◌≡◌, ℕ, ◌==◌, ◌&&◌, not, Bool, true, false, cond, List, [], ◌∷◌, Option, Some, None, refl}
 use Rattle.std.specs.List.{flat_map}
 use Rattle.std.proofs.Common.{sym, ◌∙◌, ap, subst, eq-eqb}
+use Rattle.std.proofs.lemmas.Bool.{not-false}
+use Rattle.std.proofs.lemmas.Option.{same_Some}
 use borrow.Author.Tests.{eqb-true}
 use Rattle.feed_values.specs.Snapshot.{entity_of}
 use Rattle.rule_table.specs.Peaks.{SamePeak, greatest, vehicle_id_of}
@@ -38,18 +40,11 @@ same_is : (a b : Option ℕ) → not (same_natural a b) ≡ false → a ≡ b
 same_is None None h = refl
 same_is None (Some b) h = cc
 same_is (Some a) None h = cc
-same_is (Some a) (Some b) h = ap (λ (n : ℕ). Some n) (eqb-true a b (un_not (a == b) h))
-  where
-    un_not : (b : Bool) → not b ≡ false → b ≡ true
-    un_not true h = refl
-    un_not false h = cc
+same_is (Some a) (Some b) h = ap (λ (n : ℕ). Some n) (eqb-true a b (not-false (a == b) h))
 
 pub not_moved : (u v : FeedPeaks) (given : Option (List ℕ)) → has_moved u v given ≡ false → (vehicle : List ℕ) → given ≡ Some vehicle → u vehicle ≡ v vehicle
 not_moved u v None h vehicle is = cc
-not_moved u v (Some w) h vehicle is = subst (λ x. u x ≡ v x) (same w vehicle is) (same_is (u w) (v w) h)
-  where
-    same : (w x : List ℕ) → Some w ≡ Some x → w ≡ x
-    same w x e = cc
+not_moved u v (Some w) h vehicle is = subst (λ x. u x ≡ v x) (same_Some w vehicle is) (same_is (u w) (v w) h)
 
 pub peaking_stays : PeakingStays
 peaking_stays find same g s e out = same (peak g) (peak (with g s)) e.0 (entity_of e.1) (λ vehicle is. go vehicle is)

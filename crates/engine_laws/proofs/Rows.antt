@@ -7,21 +7,21 @@ use Rattle.std.specs.Cmp.{IsTotalOrder}
 use Rattle.std.specs.Cmp.Lexicographic.{slice_cmp}
 use Rattle.std.proofs.Common.{sym, ◌∙◌, ap, subst}
 use Rattle.std.proofs.lemmas.Cmp.{on_total, then_total}
-use Rattle.std.proofs.lemmas.Slice.Eq.{bytes_eq-Decides}
-use Rattle.std.proofs.lemmas.Bool.{and_parts}
+use Rattle.std.proofs.lemmas.Bool.{and_parts, or_parts, or_left, or_right}
 use Rattle.feed_values.specs.Schema.{Value}
 use Rattle.feed_values.specs.Messages.{trip_update, vehicle_position}
 use Rattle.feed_values.specs.Snapshot.{entity_of}
 use Rattle.rule_table.specs.declared.kind.Kind.{Kind}
 use Rattle.rule_table.specs.declared.kind.Kind.TheVariants as kind
 use Rattle.rule_table.specs.declared.key.EntityKey.{EntityKey}
-use Rattle.rule_table.specs.Kinds.{kind_cmp, kinds_total, same_kind}
-use Rattle.rule_table.specs.Order.{key_cmp, same_key}
+use Rattle.rule_table.specs.Kinds.{kind_cmp, kinds_total}
+use Rattle.rule_table.specs.Order.{key_cmp}
 use Rattle.rule_table.specs.Judged.{update_of}
 use Rattle.rule_table.specs.Groups.{Each}
 use Rattle.rule_table.specs.GroupLaws.{each_append, each_weaken}
-use Rattle.rule_table.specs.Pairs.{PairRow, rows_of, update_rows, vehicle_rows, vehicle_of, is_id, is_of, has_pair, shares_id, shares, same_id, same_row, has_row}
+use Rattle.rule_table.specs.Pairs.{PairRow, rows_of, update_rows, vehicle_rows, vehicle_of, is_id, is_of, has_pair, shares_id, shares, same_row, has_row}
 use Rattle.rule_table.specs.PairAgree.{AgreeOnTrip, AgreeOnVehicle, AgreeOnRow}
+use Rattle.rule_table.proofs.SameTests.{row_is}
 use Rattle.rule_history.specs.History.{Snapshot, Keyed, now, entities_in, entities_of_snapshot, below, feed_limit}
 use Rattle.rule_history.specs.Answered.{rows, rows_in}
 use Rattle.rule_history.specs.Changed.{rows_without, changed_rows}
@@ -31,7 +31,7 @@ use Rattle.engine_laws.proofs.Ascending.{nat_less}
 use Rattle.engine_laws.proofs.Lists.{rises_parts, rises_below}
 use Rattle.engine_laws.proofs.Next.{last_now}
 use Rattle.engine_laws.proofs.Sorted.{Rising, keys_total, key_cmp_self, entities_rise, entities_feed}
-use Rattle.engine_laws.proofs.Spots.{is_false, key_is, key_self, or_left, or_right, or_false, both_true}
+use Rattle.engine_laws.proofs.Spots.{is_false}
 use Rattle.engine_laws.specs.Rows.{row_cmp}
 
 rows_total : IsTotalOrder row_cmp
@@ -83,29 +83,6 @@ rows_rising last of =
 
 pub rows_rise : (h : List Snapshot) → Rises row_cmp (rows h)
 rows_rise h = rows_rising (now h) (last_now h)
-
--- ---- rows that are the same are one
-kind_is : (a b : Kind) → same_kind a b ≡ true → a ≡ b
-kind_is kind.TripUpdate kind.TripUpdate h = refl
-kind_is kind.TripUpdate kind.Vehicle h = cc
-kind_is kind.Vehicle kind.TripUpdate h = cc
-kind_is kind.Vehicle kind.Vehicle h = refl
-
-id_is : (a b : Option (List ℕ)) → same_id a b ≡ true → a ≡ b
-id_is None None h = refl
-id_is None (Some b) h = cc
-id_is (Some a) None h = cc
-id_is (Some a) (Some b) h = ap Some ((bytes_eq-Decides a b).0 h)
-
-row_is : (a b : PairRow) → same_row a b ≡ true → a ≡ b
-row_is a b h =
-    let p = and_parts (same_kind a.kind b.kind && same_key a.key b.key && same_id a.trip b.trip) (same_id a.vehicle b.vehicle) h in
-    let q = and_parts (same_kind a.kind b.kind && same_key a.key b.key) (same_id a.trip b.trip) p.0 in
-    let r = and_parts (same_kind a.kind b.kind) (same_key a.key b.key) q.0 in
-    ap (λ x. let z : PairRow = record { kind = x; key = a.key; trip = a.trip; vehicle = a.vehicle } in z) (kind_is a.kind b.kind r.0)
-    ∙ ap (λ x. let z : PairRow = record { kind = b.kind; key = x; trip = a.trip; vehicle = a.vehicle } in z) (key_is a.key b.key r.1)
-    ∙ ap (λ x. let z : PairRow = record { kind = b.kind; key = b.key; trip = x; vehicle = a.vehicle } in z) (id_is a.trip b.trip q.1)
-    ∙ ap (λ x. let z : PairRow = record { kind = b.kind; key = b.key; trip = b.trip; vehicle = x } in z) (id_is a.vehicle b.vehicle p.1)
 
 -- ---- lists in order with the same rows are one
 after_all : (y x : PairRow) (b : List PairRow) → Each (λ z. row_cmp y z ≡ Less) b → has_row b x ≡ true → row_cmp y x ≡ Less
@@ -164,19 +141,6 @@ filter_rises test (x ∷ xs) h =
       | false ↦ filter_rises test xs h.1
     ]
 
-row_self : (x : PairRow) → same_row x x ≡ true
-row_self x =
-    both_true (same_kind x.kind x.kind && same_key x.key x.key && same_id x.trip x.trip) (same_id x.vehicle x.vehicle)
-    (both_true (same_kind x.kind x.kind && same_key x.key x.key) (same_id x.trip x.trip) (both_true (same_kind x.kind x.kind) (same_key x.key x.key) (own_kind x.kind) (key_self x.key)) (own_id x.trip)) (own_id x.vehicle)
-  where
-    own_kind : (k : Kind) → same_kind k k ≡ true
-    own_kind kind.TripUpdate = refl
-    own_kind kind.Vehicle = refl
-
-    own_id : (o : Option (List ℕ)) → same_id o o ≡ true
-    own_id None = refl
-    own_id (Some a) = (bytes_eq-Decides a a).1 refl
-
 in_filter : (test : PairRow → Bool) (x : PairRow) → test x ≡ true → (v : List PairRow) → has_row v x ≡ true → has_row (filter test v) x ≡ true
 in_filter test x t [] h = cc
 in_filter test x t (z ∷ v) h =
@@ -200,14 +164,14 @@ each_there test v (x ∷ u) h =
             | false ↦ λ _. each_there test v u none
           ] refl
       | false ↦ λ _ none.
-          let p = or_false (test x) (list_any test (rows_without u v)) none in
+          let p = or_parts (test x) (list_any test (rows_without u v)) none in
           subst (λ b. Each (λ x. has_row (filter test v) x ≡ true) (cond b (x ∷ filter test u) (filter test u))) (sym p.0) (each_there test v u p.1)
     ] refl h
 
 any_parts : (test : PairRow → Bool) (u v : List PairRow) → list_any test (u ++ v) ≡ false → (list_any test u ≡ false) × (list_any test v ≡ false)
 any_parts test [] v h = (refl, h)
 any_parts test (x ∷ u) v h =
-    let p = or_false (test x) (list_any test (u ++ v)) h in
+    let p = or_parts (test x) (list_any test (u ++ v)) h in
     let q = any_parts test u v p.1 in
     (ap (λ b. b || list_any test u) p.0 ∙ q.0, q.1)
 
@@ -272,7 +236,7 @@ module _ (u v : List PairRow) (ru : Rises row_cmp u) (rv : Rises row_cmp v) wher
 fewer : (p q : PairRow → Bool) → ((r : PairRow) → q r ≡ true → p r ≡ true) → (u : List PairRow) → list_any p u ≡ false → list_any q u ≡ false
 fewer p q w [] h = refl
 fewer p q w (x ∷ u) h =
-    let k = or_false (p x) (list_any p u) h in
+    let k = or_parts (p x) (list_any p u) h in
     ap (λ b. b || list_any q u) (is_false (q x) (λ e. let m : p x ≡ true = w x e in let n : p x ≡ false = k.0 in cc (m, n))) ∙ fewer p q w u k.1
 
 -- a row that shares no id with rows that came or went

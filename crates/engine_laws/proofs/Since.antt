@@ -4,6 +4,7 @@ use Rattle.std.proofs.Common.{inl, inr, sym, ◌∙◌, ap, subst, arith, length
 use Rattle.std.proofs.lemmas.List.{take-append-le, map-append}
 use Rattle.std.proofs.Math.Nat.{eq-or-lt_of_le}
 use Rattle.std.proofs.Math.Seq.{take-length, take-append-add}
+use Rattle.std.proofs.lemmas.Bool.{or_left, or_right}
 use Rattle.timetable.specs.Timetables.{Tables}
 use Rattle.rule_table.specs.Found.{Found}
 use Rattle.rule_table.specs.Groups.{Each}
@@ -12,7 +13,7 @@ use Rattle.rule_history.specs.Findings.{findings}
 use Rattle.rule_history.specs.Changed.{with}
 use Rattle.rule_history.specs.Standing.{Standing, IsSince, stands, stands_after, same_spot}
 use Rattle.engine_laws.specs.Standings.{findings_of, since_in, numbered, renewed, IsListOf}
-use Rattle.engine_laws.proofs.Spots.{or_left, or_right, spot_self, stands_same}
+use Rattle.engine_laws.proofs.Spots.{spot_self, stands_same}
 
 either_way : (n r : ℕ) → (n ≤ r) ⊎ (r < n)
 either_way zero r = inl (omega arith)

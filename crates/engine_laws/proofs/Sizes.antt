@@ -4,7 +4,7 @@ use Rattle.std.specs.List.{list_any, find}
 use Rattle.std.proofs.Common.{sym, ◌∙◌, ap, subst, arith, eq-eqb}
 use Rattle.std.proofs.lemmas.Bool.Decides.{nat_tests}
 use borrow.Author.Tests.{eqb-true}
-use Rattle.std.proofs.lemmas.Bool.{and_parts}
+use Rattle.std.proofs.lemmas.Bool.{and_parts, or_from}
 use Rattle.feed_values.specs.Snapshot.{entity_of}
 use Rattle.timetable.specs.Timetables.{Tables}
 use Rattle.rule_table.specs.declared.key.EntityKey.{EntityKey}
@@ -208,11 +208,8 @@ module _ (t : Option Tables) (applied : ℕ) (s : Snapshot) (old new : ℕ → H
       three a b c h = cc
 
   bounded_else : (e : Keyed) → (e.0.feed == s.feed) ≡ false → (in_tested g s e || in_bounded t g s e) ≡ false
-  bounded_else e q = ors (in_tested g s e) (in_bounded t g s e) (tested_else e q) (three (e.0.feed == s.feed) (not (keeps_bounds s (now g s.feed))) (has_bound t g e.0 || has_bound t (with g s) e.0) q)
+  bounded_else e q = or_from (in_tested g s e) (in_bounded t g s e) (tested_else e q) (three (e.0.feed == s.feed) (not (keeps_bounds s (now g s.feed))) (has_bound t g e.0 || has_bound t (with g s) e.0) q)
     where
-      ors : (a b : Bool) → a ≡ false → b ≡ false → (a || b) ≡ false
-      ors a b h k = cc
-
       three : (a b c : Bool) → a ≡ false → (a && b && c) ≡ false
       three a b c h = cc
 
@@ -233,10 +230,7 @@ module _ (t : Option Tables) (applied : ℕ) (s : Snapshot) (old new : ℕ → H
       ors a b c d h k = cc
 
   moved_else : (e : Keyed) → (e.0.feed == s.feed) ≡ false → (in_tested g s e || in_peaked g s e) ≡ false
-  moved_else e q = neither (in_tested g s e) (in_peaked g s e) (tested_else e q) (and_false (e.0.feed == s.feed) (has_moved (peak g s.feed) (peak (with g s) s.feed) (vehicle_id_of (entity_of e.1))) q)
-    where
-      neither : (a b : Bool) → a ≡ false → b ≡ false → (a || b) ≡ false
-      neither a b h k = cc
+  moved_else e q = or_from (in_tested g s e) (in_peaked g s e) (tested_else e q) (and_false (e.0.feed == s.feed) (has_moved (peak g s.feed) (peak (with g s) s.feed) (vehicle_id_of (entity_of e.1))) q)
 
   pub peaked_size : peaked g s ≡ peaked_held s old new
   peaked_size =

@@ -3,7 +3,7 @@ use Rattle.std.specs.Prelude.{◌≡◌, ℕ, ◌==◌, ◌&&◌, ◌||◌, Bool
 use Rattle.std.specs.List.{list_any}
 use Rattle.std.proofs.Common.{sym, ap, ◌∙◌, eq-eqb}
 use borrow.Author.Tests.{eqb-true}
-use Rattle.std.proofs.lemmas.Bool.{and_parts, and_from}
+use Rattle.std.proofs.lemmas.Bool.{and_parts, and_from, or_right, or_left}
 use Rattle.rule_table.specs.declared.key.EntityKey.{EntityKey}
 use Rattle.rule_table.specs.declared.place.Place.{Place}
 use Rattle.rule_table.specs.declared.place.Place.TheVariants as place
@@ -11,17 +11,9 @@ use Rattle.rule_table.specs.Rules.{rule_number, same_rule}
 use Rattle.rule_table.specs.Order.{same_key, same_path, same_place, slot_number}
 use Rattle.rule_table.specs.Found.{Found}
 use Rattle.rule_table.specs.Groups.{IsOn, IsUnder}
-pub use Rattle.rule_table.specs.GroupLaws.{or_left, or_right}
 pub use Rattle.rule_table.proofs.SameKeys.{key_is, key_self, key_other}
 use Rattle.rule_history.specs.Standing.{Standing, same_spot, same_finding, stands, was}
 use Rattle.engine_laws.specs.Standings.{findings_of, since_in}
-
-pub both_true : (b c : Bool) → b ≡ true → c ≡ true → (b && c) ≡ true
-both_true = and_from
-
-pub or_false : (b c : Bool) → (b || c) ≡ false → (b ≡ false) × (c ≡ false)
-or_false true c h = cc
-or_false false c h = (refl, h)
 
 -- a test that is not true is false
 pub is_false : (b : Bool) → (b ≡ true → ⊥) → b ≡ false
@@ -51,14 +43,14 @@ place_left (place.Entity k p) (place.Entity l q) (place.Entity m r) h =
     (same_number (slot_number p.slot) (slot_number q.slot) (slot_number r.slot) i.0) (same_number p.index q.index r.index i.1))
 
 place_self : (p : Place) → same_place p p ≡ true
-place_self (place.Head f s) = both_true (f == f) (slot_number s == slot_number s) (eq-eqb f f refl) (eq-eqb (slot_number s) (slot_number s) refl)
+place_self (place.Head f s) = and_from (f == f) (slot_number s == slot_number s) (eq-eqb f f refl) (eq-eqb (slot_number s) (slot_number s) refl)
 place_self (place.Entity k p) =
-    both_true (same_key k k) (same_path p p) (key_self k)
-    (both_true (slot_number p.slot == slot_number p.slot) (p.index == p.index) (eq-eqb (slot_number p.slot) (slot_number p.slot) refl) (eq-eqb p.index p.index refl))
+    and_from (same_key k k) (same_path p p) (key_self k)
+    (and_from (slot_number p.slot == slot_number p.slot) (p.index == p.index) (eq-eqb (slot_number p.slot) (slot_number p.slot) refl) (eq-eqb p.index p.index refl))
 
 -- ---- rules at places
 pub spot_self : (f : Found) → same_spot f f ≡ true
-spot_self f = both_true (same_rule f.rule f.rule) (same_place f.place f.place) (eq-eqb (rule_number f.rule) (rule_number f.rule) refl) (place_self f.place)
+spot_self f = and_from (same_rule f.rule f.rule) (same_place f.place f.place) (eq-eqb (rule_number f.rule) (rule_number f.rule) refl) (place_self f.place)
 
 pub spot_left : (f g k : Found) → same_spot f g ≡ true → same_spot f k ≡ same_spot g k
 spot_left f g k h =

@@ -5,6 +5,7 @@ use Rattle.std.specs.Ordering.{int_eq}
 use Rattle.std.proofs.Common.{ap, ◌∙◌, eq-eqb}
 use Rattle.std.proofs.lemmas.Bool.Decides.{Decides-int_eq}
 use Rattle.std.proofs.lemmas.Slice.Eq.{bytes_eq-Decides}
+use Rattle.std.proofs.lemmas.Bool.{and_from, or_left, or_right}
 use Rattle.feed_values.specs.declared.cell_value.CellValue.{CellValue}
 use Rattle.feed_values.specs.declared.cell_value.CellValue.TheVariants as value
 use Rattle.rule_table.specs.declared.fact.Fact.{Fact}
@@ -16,7 +17,7 @@ use Rattle.rule_history.specs.Standing.{Standing, same_spot, same_finding, stand
 use Rattle.rule_table.specs.SameFacts.{same_ask, same_facts}
 use Rattle.engine_laws.specs.Standings.{findings_of}
 use Rattle.engine_laws.proofs.Lists.{filter-none, each_of_map}
-use Rattle.engine_laws.proofs.Spots.{spot_self, both_true, or_left, or_right}
+use Rattle.engine_laws.proofs.Spots.{spot_self}
 use Rattle.rule_table.specs.Parts.{AskParts, parts_of, same_parts, parts_same}
 
 parts_self : (p : AskParts) → same_parts p p ≡ true
@@ -37,10 +38,10 @@ cell_self (value.Text t) = (bytes_eq-Decides t t).1 refl
 
 facts_self : (fs : List Fact) → same_facts fs fs ≡ true
 facts_self [] = refl
-facts_self (f ∷ fs) = both_true (same_ask f.ask f.ask && same_cell f.value f.value) (same_facts fs fs) (both_true (same_ask f.ask f.ask) (same_cell f.value f.value) (parts_same f.ask f.ask ∙ parts_self (parts_of f.ask)) (cell_self f.value)) (facts_self fs)
+facts_self (f ∷ fs) = and_from (same_ask f.ask f.ask && same_cell f.value f.value) (same_facts fs fs) (and_from (same_ask f.ask f.ask) (same_cell f.value f.value) (parts_same f.ask f.ask ∙ parts_self (parts_of f.ask)) (cell_self f.value)) (facts_self fs)
 
 finding_self : (f : Found) → same_finding f f ≡ true
-finding_self f = both_true (same_spot f f) (same_facts f.facts f.facts) (spot_self f) (facts_self f.facts)
+finding_self f = and_from (same_spot f f) (same_facts f.facts f.facts) (spot_self f) (facts_self f.facts)
 
 -- each of a list is one of it
 any_self : (test : Found → Found → Bool) → ((f : Found) → test f f ≡ true) → (fs : List Found) → Each (λ f. list_any (test f) fs ≡ true) fs

@@ -7,6 +7,7 @@ use Rattle.std.specs.Cmp.Lexicographic.{slice_cmp}
 use Rattle.std.proofs.Common.{◌∙◌, ap, eq-eqb}
 use Rattle.std.proofs.lemmas.Cmp.{nat_cmp_total, nat_list_cmp_total, on_total, then_total}
 use Rattle.std.proofs.lemmas.Slice.Eq.{bytes_eq-Decides}
+use Rattle.std.proofs.lemmas.Bool.{and_from}
 use Rattle.rule_table.specs.declared.key.EntityKey.{EntityKey}
 use Rattle.rule_table.specs.declared.place.Place.{Place}
 use Rattle.rule_table.specs.declared.place.Place.TheVariants as place
@@ -24,7 +25,7 @@ use Rattle.engine_laws.proofs.Ascending.{spot_equal, less_apart}
 use Rattle.engine_laws.proofs.Lists.{filter-same}
 use Rattle.engine_laws.proofs.Since.{renewed-same}
 use Rattle.engine_laws.proofs.Sorted.{then_equal, nat_equal, text_equal}
-use Rattle.engine_laws.proofs.Spots.{is_false, both_true}
+use Rattle.engine_laws.proofs.Spots.{is_false}
 use Rattle.engine_laws.specs.Walk.{WalkRenews, WalkOpens, WalkCloses}
 
 -- ---- the order of findings is an order
@@ -76,20 +77,20 @@ equal_spot f g h =
     let b = then_equal (holder_cmp f.place g.place) _ a.1 in
     let c = then_equal (nat_cmp (rule_number f.rule) (rule_number g.rule)) _ b.1 in
     let d = then_equal (nat_cmp (slot_number (slot_of f.place)) (slot_number (slot_of g.place))) _ c.1 in
-    both_true (same_rule f.rule g.rule) (same_place f.place g.place) (eq-eqb (rule_number f.rule) (rule_number g.rule) (nat_equal (rule_number f.rule) (rule_number g.rule) c.0))
+    and_from (same_rule f.rule g.rule) (same_place f.place g.place) (eq-eqb (rule_number f.rule) (rule_number g.rule) (nat_equal (rule_number f.rule) (rule_number g.rule) c.0))
     (at f.place g.place a.0 b.0 d.0 d.1)
   where
     at : (p q : Place) → nat_cmp (feed_of p) (feed_of q) ≡ Equal → holder_cmp p q ≡ Equal → nat_cmp (slot_number (slot_of p)) (slot_number (slot_of q)) ≡ Equal → nat_cmp (index_of p) (index_of q) ≡ Equal → same_place p q ≡ true
     at (place.Head n s) (place.Entity l q) a b c d = cc
     at (place.Entity k p) (place.Head n s) a b c d = cc
-    at (place.Head n s) (place.Head m t) a b c d = both_true (n == m) (slot_number s == slot_number t) (eq-eqb n m (nat_equal n m a)) (eq-eqb (slot_number s) (slot_number t) (nat_equal (slot_number s) (slot_number t) c))
+    at (place.Head n s) (place.Head m t) a b c d = and_from (n == m) (slot_number s == slot_number t) (eq-eqb n m (nat_equal n m a)) (eq-eqb (slot_number s) (slot_number t) (nat_equal (slot_number s) (slot_number t) c))
     at (place.Entity k p) (place.Entity l q) a b c d =
         let w = then_equal (slice_cmp nat_cmp k.id l.id) (nat_cmp k.occurrence l.occurrence) b in
-        both_true (same_key k l) (same_path p q)
-        (both_true (k.feed == l.feed && bytes_eq k.id l.id) (k.occurrence == l.occurrence)
-        (both_true (k.feed == l.feed) (bytes_eq k.id l.id) (eq-eqb k.feed l.feed (nat_equal k.feed l.feed a)) ((bytes_eq-Decides k.id l.id).1 (text_equal k.id l.id w.0)))
+        and_from (same_key k l) (same_path p q)
+        (and_from (k.feed == l.feed && bytes_eq k.id l.id) (k.occurrence == l.occurrence)
+        (and_from (k.feed == l.feed) (bytes_eq k.id l.id) (eq-eqb k.feed l.feed (nat_equal k.feed l.feed a)) ((bytes_eq-Decides k.id l.id).1 (text_equal k.id l.id w.0)))
         (eq-eqb k.occurrence l.occurrence (nat_equal k.occurrence l.occurrence w.1)))
-        (both_true (slot_number p.slot == slot_number q.slot) (p.index == q.index) (eq-eqb (slot_number p.slot) (slot_number q.slot) (nat_equal (slot_number p.slot) (slot_number q.slot) c)) (eq-eqb p.index q.index (nat_equal p.index q.index d)))
+        (and_from (slot_number p.slot == slot_number q.slot) (p.index == q.index) (eq-eqb (slot_number p.slot) (slot_number q.slot) (nat_equal (slot_number p.slot) (slot_number q.slot) c)) (eq-eqb p.index q.index (nat_equal p.index q.index d)))
 
 less_before : (f g : Found) → found_cmp f g ≡ Less → same_spot f g ≡ false
 less_before f g h = is_false (same_spot f g) (λ e. clash (spot_equal f g e))

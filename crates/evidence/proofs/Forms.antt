@@ -2,7 +2,6 @@
 use Rattle.std.proofs.Common.{◌≡◌, ◌<◌, ◌+◌, ℕ, suc, length, List, [], ◌∷◌, ◌++◌, map, take, drop, slice_set, refl, sym, ◌∙◌, ap, arith, append_assoc}
 use Rattle.std.proofs.Math.ListN.{get_or}
 use Rattle.std.proofs.Math.Seq.{drop-cons}
-use Rattle.std.proofs.lemmas.List.{take_more_set, map-append}
 use Rattle.feed_values.specs.declared.cell_ref.CellRef.{CellRef}
 use Rattle.feed_values.specs.declared.cell_value.CellValue.{CellValue}
 use Rattle.feed_values.specs.Cells.{cell_value}
@@ -11,6 +10,7 @@ use Rattle.rule_table.specs.declared.place.Place.{Place}
 use Rattle.rule_table.specs.declared.row.Cite.{Cite}
 use Rattle.rule_table.specs.Broken.{IsFormed}
 use Rattle.rule_table.specs.Cited.{values_of}
+use Rattle.rule_table.proofs.MoreCells.{cells_more}
 
 -- there are as many facts as entries
 pub formed_length : (at : Place) (vs : List CellValue) (cs : List Cite) (fs : List Fact) → IsFormed at vs cs fs → length cs ≡ length fs
@@ -18,10 +18,6 @@ formed_length at vs [] [] h = refl
 formed_length at vs [] (f ∷ fs) h = absurd h
 formed_length at vs (c ∷ cs) [] h = absurd h
 formed_length at vs (c ∷ cs) (f ∷ fs) h = ap suc (formed_length at (vs ++ f.value ∷ []) cs fs h.2)
-
-cells_more : (cells : List CellRef) (k : ℕ) (cell : CellRef) → k < length cells
-    → map cell_value (take (k + 1) (slice_set cells k cell)) ≡ map cell_value (take k cells) ++ cell_value cell ∷ []
-cells_more cells k cell h = ap (map cell_value) (take_more_set cells k cell h) ∙ map-append cell_value (take k cells) (cell ∷ [])
 
 -- the values of facts, as many taken over as there are cells
 pub facts_more : (cells : List CellRef) (k : ℕ) (cell : CellRef) (facts : List Fact) (d : Fact) → k < length cells → k < length facts → cell_value cell ≡ (let f : Fact = get_or facts k d in f.value)

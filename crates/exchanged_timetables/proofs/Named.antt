@@ -1,7 +1,10 @@
 -- Entities that are held, and the keys that are named of them.
 use Rattle.std.specs.Prelude.{◌≡◌, ℕ, zero, suc, ◌<◌, ◌≤◌, ◌==◌, nat_le, ◌||◌, Bool, true, false, List, [], ◌∷◌, ◌++◌, map, Option, Some, None, option_map, is_some, refl}
-use Rattle.std.specs.List.{list_any}
 use Rattle.std.proofs.Common.{sym, ap, ◌∙◌, subst, arith}
+use Rattle.std.proofs.lemmas.List.{map-append}
+use Rattle.std.proofs.lemmas.List.Folds.{list_any-append}
+use Rattle.std.proofs.lemmas.Option.{same_Some}
+use Rattle.std.proofs.lemmas.Bool.{true≢false}
 use borrow.Author.Tests.{eqb-true, leb-true, leb-false}
 use Rattle.feed_values.specs.Schema.{Value}
 use Rattle.feed_values.specs.Messages.{entity}
@@ -11,10 +14,11 @@ use Rattle.rule_table.specs.declared.key.EntityKey.{EntityKey}
 use Rattle.rule_table.specs.Groups.{Each}
 use Rattle.rule_table.specs.Order.{same_key}
 use Rattle.rule_history.specs.Answered.{payload_under}
-use Rattle.rule_history.specs.History.{Keyed, below, entities_of_snapshot, feed_limit, feed_limit-is}
-use Rattle.engine_laws.proofs.Sorted.{entities_feed}
+use Rattle.rule_history.specs.History.{Keyed, below, entities_of_snapshot, feed_limit}
 use Rattle.engine_laws.proofs.Spots.{key_is}
 use Rattle.taken_snapshots.specs.cached_laws.part_laws.Touched.{is_among}
+use Rattle.taken_snapshots.specs.cached_laws.GoneProofs.{feed_before}
+use Rattle.taken_snapshots.specs.cached_laws.PlacedProofs.{of_few}
 use Rattle.taken_snapshots.specs.cached_laws.State.{State, IsState, feed_of, header_at, snapshot_with}
 use Rattle.taken_snapshots.specs.entity_index.Held.{KeyedValues, at_key, entities_before, held_at, values_of}
 use Rattle.taken_snapshots.specs.entity_index.AtKeyProofs.{at-mapped, at_first, at_later}
@@ -44,21 +48,6 @@ each_part {A} P part (suc n) f l h = elim (nat_le n f) as (λ b. nat_le n f ≡ 
     same : (n f : ℕ) → n ≤ f → f < suc n → f ≡ n
     same n f a b = omega (arith, a, b)
 
-any_either : {A : Type 0} (test : A → Bool) (xs ys : List A) → list_any test (xs ++ ys) ≡ (list_any test xs || list_any test ys)
-any_either test [] ys = refl
-any_either test (x ∷ xs) ys = ap (λ b. test x || b) (any_either test xs ys) ∙ apart (test x) (list_any test xs) (list_any test ys)
-  where
-    apart : (a b c : Bool) → (a || (b || c)) ≡ ((a || b) || c)
-    apart true b c = refl
-    apart false b c = refl
-
-map_both : {A B : Type 0} (g : A → B) (xs ys : List A) → map g (xs ++ ys) ≡ map g xs ++ map g ys
-map_both g [] ys = refl
-map_both g (x ∷ xs) ys = ap (λ zs. g x ∷ zs) (map_both g xs ys)
-
-clash : {P : Type 0} → true ≡ false → P
-clash e = cc
-
 module _ (state : State) (is : IsState state) where
   abbrev held_of : ℕ → KeyedValues
   held_of f = entities_said (feed_of state f).last
@@ -71,36 +60,19 @@ module _ (state : State) (is : IsState state) where
       go m (Some b) = refl
 
   of_feed : (f : ℕ) → Each (λ e. e.0.feed ≡ f) (entities_before f (held_at state.index f).bytes)
-  of_feed f = go (held_at state.index f).bytes
-    where
-      go : (o : Option (List ℕ)) → Each (λ e. e.0.feed ≡ f) (entities_before f o)
-      go None = tt
-      go (Some b) = entities_feed f b
+  of_feed f = feed_before f (held_at state.index f).bytes
 
   -- ---- an entity that is there is one of those that are handed out
   within : (k : EntityKey) (p : List ℕ) → payload_at state.index k ≡ Some p → k.feed < feed_limit
-  within k p h = subst (λ n. k.feed < n) (sym feed_limit-is) (go (nat_le 16 k.feed) refl)
-    where
-      go : (b : Bool) → nat_le 16 k.feed ≡ b → k.feed < 256
-      go false q = less k.feed (leb-false 16 k.feed q)
-        where
-          less : (f : ℕ) → f < 16 → f < 256
-          less f l = omega arith
-      go true q = absurd (never (sym (ap (λ o. payload_under k (entities_before k.feed o)) (is.few k.feed (leb-true 16 k.feed q))) ∙ h))
-        where
-          never : payload_under k [] ≡ Some p → ⊥
-          never e = cc
+  within = of_few state.index is.few
 
   each_valued : (P : EntityKey × Value entity → Type 0) (k : EntityKey) (p : List ℕ) (es : List Keyed) → Each P (values_of es) → payload_under k es ≡ Some p → P (k, entity_of p)
   each_valued P k p [] all h = cc
   each_valued P k p (e ∷ es) all h = either (same_key e.0 k) refl (each_valued P k p es all.1)
     where
-      inside : (a b : List ℕ) → Some a ≡ Some b → a ≡ b
-      inside a b q = cc
-
       either : (b : Bool) → same_key e.0 k ≡ b → (payload_under k es ≡ Some p → P (k, entity_of p)) → P (k, entity_of p)
       either true q rest =
-          subst (λ (x : Value entity). P (k, x)) (ap entity_of (inside e.1 p (sym (at_first e es k q) ∙ h)))
+          subst (λ (x : Value entity). P (k, x)) (ap entity_of (same_Some e.1 p (sym (at_first e es k q) ∙ h)))
           (subst (λ (x : EntityKey). P (x, entity_of e.1)) (key_is e.0 k q) all.0)
       either false q rest = rest (sym (at_later e es k q) ∙ h)
 
@@ -135,27 +107,27 @@ module _ (state : State) (is : IsState state) where
 
       by_feed : (b : Bool) → (f == k.feed) ≡ b → is_some (payload_at state.index k) ≡ true
       by_feed true e = subst (λ g. is_some (payload_under k (entities_before g (held_at state.index g).bytes)) ≡ true) (eqb-true f k.feed e) found
-      by_feed false e = clash (sym found ∙ ap is_some (none_far f k (entities_before f (held_at state.index f).bytes) (of_feed f) e))
+      by_feed false e = absurd (true≢false (sym found ∙ ap is_some (none_far f k (entities_before f (held_at state.index f).bytes) (of_feed f) e)))
 
   there_below : (n : ℕ) (k : EntityKey) → is_among (map (λ e. e.0) (below held_of n)) k ≡ true → is_some (payload_at state.index k) ≡ true
-  there_below zero k h = clash (sym h)
+  there_below zero k h = absurd (true≢false (sym h))
   there_below (suc n) k h =
       either (there_below n k) (is_among (map (λ e. e.0) (below held_of n)) k) (is_among (map (λ e. e.0) (held_of n)) k) refl refl
-      (sym (any_either (λ q. same_key q k) (map (λ e. e.0) (below held_of n)) (map (λ e. e.0) (held_of n)))
-      ∙ ap (λ ks. is_among ks k) (sym (map_both (λ (e : EntityKey × Value entity). e.0) (below held_of n) (held_of n))) ∙ h)
+      (sym (list_any-append (λ q. same_key q k) (map (λ e. e.0) (below held_of n)) (map (λ e. e.0) (held_of n)))
+      ∙ ap (λ ks. is_among ks k) (sym (map-append (λ (e : EntityKey × Value entity). e.0) (below held_of n) (held_of n))) ∙ h)
     where
       either : (is_among (map (λ e. e.0) (below held_of n)) k ≡ true → is_some (payload_at state.index k) ≡ true) → (a b : Bool) →
           is_among (map (λ e. e.0) (below held_of n)) k ≡ a → is_among (map (λ e. e.0) (held_of n)) k ≡ b →
           (is_among (map (λ e. e.0) (below held_of n)) k || is_among (map (λ e. e.0) (held_of n)) k) ≡ true → is_some (payload_at state.index k) ≡ true
       either earlier true b p q r = earlier p
       either earlier false true p q r = there_in n k q
-      either earlier false false p q r = clash (sym r ∙ ap (λ a. a || is_among (map (λ e. e.0) (held_of n)) k) p ∙ q)
+      either earlier false false p q r = absurd (true≢false (sym r ∙ ap (λ a. a || is_among (map (λ e. e.0) (held_of n)) k) p ∙ q))
 
   pub named_there : (keys : List EntityKey) → AreKeysOf (entities_held state) keys → (k : EntityKey) → is_among keys k ≡ true → is_some (payload_at state.index k) ≡ true
   named_there keys named k h = there_below feed_limit k (go keys named.among h)
     where
       go : (ks : List EntityKey) → Each (λ q. is_among (map (λ e. e.0) (entities_held state)) q ≡ true) ks → is_among ks k ≡ true → is_among (map (λ e. e.0) (entities_held state)) k ≡ true
-      go [] all m = clash (sym m)
+      go [] all m = absurd (true≢false (sym m))
       go (q ∷ ks) all m = either (same_key q k) refl (go ks all.1)
         where
           either : (b : Bool) → same_key q k ≡ b → (is_among ks k ≡ true → is_among (map (λ e. e.0) (entities_held state)) k ≡ true) → is_among (map (λ e. e.0) (entities_held state)) k ≡ true

@@ -1,5 +1,5 @@
 -- What is held once entities were judged again with another timetable is what is owed for it.
-use Rattle.std.specs.Prelude.{◌≡◌, ℕ, List, [], ◌∷◌, map, Option, Some, None, option_map, IfSome, false, refl}
+use Rattle.std.specs.Prelude.{◌≡◌, ℕ, List, map, Option, Some, None, option_map, IfSome, false, refl}
 use Rattle.std.proofs.Common.{sym, ap, ◌∙◌, subst}
 use Rattle.feed_values.specs.Snapshot.{entity_of}
 use Rattle.timetable.specs.Timetables.{Tables}
@@ -14,16 +14,16 @@ use Rattle.engine_laws.specs.HeldFeeds.{AreApart, HeldFeed, KeyedLists, entities
 use Rattle.engine_laws.specs.Standings.{renewed}
 use Rattle.engine_laws.proofs.Lists.{map-same}
 use Rattle.engine_laws.proofs.Next.{gathered_same}
-use Rattle.engine_laws.proofs.Sorted.{apart_rising, entities_feed, entities_rise}
+use Rattle.engine_laws.proofs.Sorted.{entities_feed}
 use Rattle.taken_snapshots.specs.cached_laws.part_laws.Touched.{is_among}
 use Rattle.taken_snapshots.specs.cached_laws.State.{State, IsState, feed_of, header_at, snapshot_with, whole_of}
 use Rattle.taken_snapshots.specs.cached_laws.Cached.{AreCached, bounded_by, bounded_in, peaked_in}
-use Rattle.taken_snapshots.specs.cached_laws.EntriesProofs.{same_entries}
-use Rattle.taken_snapshots.specs.cached_laws.NextProofs.{map-map, under_is}
+use Rattle.taken_snapshots.specs.cached_laws.EntriesProofs.{lists_are, map-map}
+use Rattle.taken_snapshots.specs.cached_laws.GoneProofs.{apart_before, feed_before}
+use Rattle.taken_snapshots.specs.cached_laws.NextProofs.{under_is}
 use Rattle.taken_snapshots.specs.cached_laws.PartsProofs.{bounded_is, local_is, paired_is, peaked_is}
 use Rattle.taken_snapshots.specs.entity_index.Held.{HeldEntities, at_key, entities_before, held_at}
 use Rattle.taken_snapshots.specs.entity_index.Lists.{Lists}
-use Rattle.taken_snapshots.specs.entity_index.AtKeyProofs.{at-mapped, keys-apart}
 use Rattle.taken_snapshots.specs.entity_parts.Found.{local_found, paired_found}
 use Rattle.taken_snapshots.specs.entity_parts.WholeProofs.{parts_are_the_whole}
 use Rattle.taken_snapshots.specs.standing_walks.Merged.{merged_four}
@@ -33,17 +33,6 @@ use Rattle.taken_snapshots.specs.touched_entities.Told.{FeedTold}
 use Rattle.exchanged_timetables.specs.Exchange.{IsExchange}
 use Rattle.exchanged_timetables.proofs.Held.{last_new, lists_last, lists_now, retabled, rows_new}
 use Rattle.exchanged_timetables.proofs.History.{exchange_own}
-
-each_key : {A B : Type 0} (P : EntityKey → Type 0) (xs : List (EntityKey × A)) (ys : List (EntityKey × B)) → map (λ e. e.0) xs ≡ map (λ e. e.0) ys → Each (λ e. P e.0) ys → Each (λ e. P e.0) xs
-each_key P [] ys h all = tt
-each_key P (x ∷ xs) [] h all = cc
-each_key P (x ∷ xs) (y ∷ ys) h all = (subst P (sym (first x.0 y.0 (map (λ e. e.0) xs) (map (λ e. e.0) ys) h)) all.0, each_key P xs ys (rest x.0 y.0 (map (λ e. e.0) xs) (map (λ e. e.0) ys) h) all.1)
-  where
-    first : (k l : EntityKey) (ks ls : List EntityKey) → k ∷ ks ≡ l ∷ ls → k ≡ l
-    first k l ks ls e = cc
-
-    rest : (k l : EntityKey) (ks ls : List EntityKey) → k ∷ ks ≡ l ∷ ls → ks ≡ ls
-    rest k l ks ls e = cc
 
 module _ (t u : Option Tables) (n : ℕ) (keys : List EntityKey) (state : State) (is : IsState state) (cached : AreCached t state.index (feed_of state))
     (beside : (k : EntityKey) → is_among keys k ≡ false → found_under (local_found t) state.index k ≡ found_under (local_found u) state.index k)
@@ -71,36 +60,23 @@ module _ (t u : Option Tables) (n : ℕ) (keys : List EntityKey) (state : State)
   there f = entities_before f (held_at old f).bytes
 
   there_feed : (f : ℕ) → Each (λ e. e.0.feed ≡ f) (there f)
-  there_feed f = go (held_at old f).bytes
-    where
-      go : (o : Option (List ℕ)) → Each (λ e. e.0.feed ≡ f) (entities_before f o)
-      go None = tt
-      go (Some b) = entities_feed f b
+  there_feed f = feed_before f (held_at old f).bytes
 
   there_apart : (f : ℕ) → AreApart (there f)
-  there_apart f = go (held_at old f).bytes
-    where
-      go : (o : Option (List ℕ)) → AreApart (entities_before f o)
-      go None = tt
-      go (Some b) = apart_rising (entities_before f (Some b)) (entities_rise f b)
+  there_apart f = apart_before f (held_at old f).bytes
 
   keys_then : (f : ℕ) → map (λ c. c.0) (held_at last f).parts ≡ map (λ e. e.0) (there f)
   keys_then f = passed.feeds_are.keys_are f ∙ is.keys_are f
 
   -- each entity has the lists of now
   parts_then : (f : ℕ) → (held_at last f).parts ≡ map {B = EntityKey × Lists} (λ e. (e.0, now_lists e.0 e.1)) (there f)
-  parts_then f =
-      same_entries (held_at last f).parts (map {B = EntityKey × Lists} (λ e. (e.0, now_lists e.0 e.1)) (there f)) (keys_then f ∙ sym (map-map (λ (e : Keyed). let d : EntityKey × Lists = (e.0, now_lists e.0 e.1) in d) (λ c. c.0) (there f)))
-      (keys-apart (there f) (held_at last f).parts (sym (keys_then f)) (there_apart f))
-      (each_key (λ k. at_key k (held_at last f).parts ≡ at_key k (map {B = EntityKey × Lists} (λ e. (e.0, now_lists e.0 e.1)) (there f))) (held_at last f).parts (there f) (keys_then f)
-      (each_weaken (λ (e : Keyed). e.0.feed ≡ f) (λ e. at_key e.0 (held_at last f).parts ≡ at_key e.0 (map {B = EntityKey × Lists} (λ e. (e.0, now_lists e.0 e.1)) (there f))) (λ e h. one e.0 h) (there f) (there_feed f)))
+  parts_then f = lists_are f now_lists (held_at last f).parts (there f) (keys_then f) (there_apart f) (there_feed f) one
     where
-      one : (k : EntityKey) → k.feed ≡ f → at_key k (held_at last f).parts ≡ at_key k (map {B = EntityKey × Lists} (λ e. (e.0, now_lists e.0 e.1)) (there f))
+      one : (k : EntityKey) → k.feed ≡ f → at_key k (held_at last f).parts ≡ option_map (now_lists k) (payload_under k (there f))
       one k h =
           ap (λ g. at_key k (held_at last g).parts) (sym h)
           ∙ lists_last t u n keys state is cached beside last before after passed k
           ∙ ap (λ g. option_map (now_lists k) (payload_under k (entities_before g (held_at old g).bytes))) h
-          ∙ sym (at-mapped now_lists (there f) k)
 
   -- the whole of them is the whole renewed
   whole_now : (f : ℕ) (x : Snapshot) → (feeds f).last ≡ Some x → (e : Keyed) → e.0.feed ≡ f → whole_of (now_lists e.0 e.1) ≡ renewed (list_under e.0 (feeds f).entities) n (entity_found u (gathered_held feeds) x e)

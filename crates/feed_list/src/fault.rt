@@ -4,34 +4,26 @@ ghost use Rattle.feed_list.specs.Texts.{bad_value_text, fault_text};
 
 use crate::column::Column;
 use std::alloc::{AllocError, Global};
-use thiserror::Error;
 
 /// The first fault of a list.
 ///
 /// A missing file comes first, then a list that is too large, in bytes and then in rows, then the rows in order. In a row
 /// the count of its fields comes first, then the columns in order, each first as text and then as a value. Rows count from 1.
-#[derive(Clone, Copy, Debug, PartialEq, Eq, Error)]
+#[derive(Clone, Copy, Debug, PartialEq, Eq)]
 pub enum ListFault {
     /// The file is absent.
-    #[error("missing file")]
     MissingFile,
     /// The file has more than 134,217,728 bytes, or the list more than 1,000,000 rows.
-    #[error("too large")]
     TooLarge,
     /// The row hasn't three fields.
-    #[error("row {}: bad value in {}", .0, Column::Path.name())]
     NotThreeFields(u64),
     /// The field isn't UTF-8.
-    #[error("row {0}: not text")]
     NotText(u64, Column),
     /// The field isn't a value of its column.
-    #[error("row {}: bad value in {}", .0, .1.name())]
     BadValue(u64, Column),
     /// The outside failed while the file was read.
-    #[error("read fault")]
     ReadFault,
     /// Memory was refused.
-    #[error("out of memory")]
     Memory,
 }
 

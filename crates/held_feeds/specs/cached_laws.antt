@@ -1,6 +1,6 @@
 -- What `cached_laws` says, for the crates above.
+pub use Rattle.cached_laws.proofs.Between as BetweenProofs
 pub use Rattle.cached_laws.proofs.Bounds as BoundsProofs
-pub use Rattle.cached_laws.proofs.Change as ChangeProofs
 pub use Rattle.cached_laws.proofs.Counts as CountsProofs
 pub use Rattle.cached_laws.proofs.Entries as EntriesProofs
 pub use Rattle.cached_laws.proofs.Gone as GoneProofs

@@ -17,8 +17,10 @@ use Rattle.std.specs.Map.{keys_of, lookup}
 use Rattle.history_rules.specs.Stamps.{Stamp, same_stamp, stamps_at, stamps_of, holds, is_above}
 use Rattle.history_rules.specs.StampGroups.{moment_cmp, key_in, has_at, between, in_groups, AreSmall}
 use Rattle.rule_table.proofs.SameKeys.{keys_total, same-key, then-eq, same-number}
+use Rattle.rule_table.proofs.SameTests.{any-same}
 use Rattle.std.proofs.lemmas.Map.Lookups.{CmpEqualImpliesEq, exact_unsigned}
 use Rattle.std.proofs.lemmas.Cmp.{nat_cmp_total, on_total, then_total}
+use Rattle.std.proofs.Math.Bool.{or-true, or-false}
 use Rattle.std.specs.declared.cmp.Ordering.{Ordering}
 use Rattle.std.specs.declared.cmp.Ordering.TheVariants.{Less, Equal, Greater}
 
@@ -107,14 +109,6 @@ has-group (e ∷ es) s at k =
           ap (λ b. list_any (eq_by_cmp key_cmp k) e.1.keys || b) (has-group es s.1 at k ∙ ap (λ m. key_in k (lookup (is_at (moment_cmp m)) es)) same ∙ ap (key_in k) (none_later e.0 es s.0)) ∙ or-false (list_any (eq_by_cmp key_cmp k) e.1.keys)
       | false ↦ λ _. has-group es s.1 at k
     ] refl)
-  where
-    or-false : (b : Bool) → (b || false) ≡ b
-    or-false true = refl
-    or-false false = refl
-
-pub any-same : {A : Type 0} (p q : A → Bool) → ((x : A) → p x ≡ q x) → (xs : List A) → list_any p xs ≡ list_any q xs
-any-same p q h [] = refl
-any-same p q h (x ∷ xs) = ap (λ b. b || list_any p xs) (h x) ∙ ap (λ b. q x || b) (any-same p q h xs)
 
 same-moment : (a b : Moment) → is_eq (moment_cmp a b) ≡ (a.feed == b.feed && a.stamp == b.stamp)
 same-moment a b =
@@ -194,10 +188,6 @@ small_taken one s old new small n h = each (same_stamp one s) (sym n ∙ h)
     each : (b : Bool) → (not b && old) ≡ true → s.at.stamp < 2 ^ 64
     each true h = cc
     each false h = small h
-
-or-true : (b : Bool) → (b || true) ≡ true
-or-true true = refl
-or-true false = refl
 
 small_first : (x : Stamp) (xs : List Stamp) → AreSmall (x ∷ xs) → x.at.stamp < 2 ^ 64
 small_first x xs small = small x (ap (λ b. b || holds xs x) (itself x))

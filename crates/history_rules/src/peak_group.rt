@@ -10,11 +10,10 @@ ghost use Rattle.rule_table.specs.GroupLaws.{all_own, all_once};
 ghost use Rattle.history_rules.specs.Rules.{peak_rules};
 ghost use Rattle.history_rules.specs.SamePeaks.{peaks_same};
 
-use feed_values::{CellRef, Entity, field_at};
+use feed_values::{CellRef, Entity, field_at, natural_cell};
 use rt_outside::Steps;
 use rule_table::{
     Answers, AskRef, EntityKey, FindingList, PeakRule, PeakView, RuleId, Rules, judge_rules,
-    stamp_cell,
 };
 use std::alloc::{AllocError, Global};
 use std::sync::ledger::Ledger;
@@ -25,7 +24,7 @@ fn peaks_answer<'a, V: PeakView>(view: &'a V, ask: AskRef<'_>) -> Option<CellRef
     ensures { option_map cell_value result ≡ peaks_answer (V.peaks view.now) (ask_value ask.entry) }
 {
     match ask {
-        AskRef::Peak(feed, vehicle) => Some(stamp_cell(view.peak(feed, vehicle))),
+        AskRef::Peak(feed, vehicle) => Some(natural_cell(view.peak(feed, vehicle))),
         _ => None,
     }
 }

@@ -72,7 +72,6 @@ pub(crate) fn take_stamp(
 
 /// Puts the keys under the moments after one and up to another into a set.
 pub(crate) fn put_between(
-    alloc: Global,
     keys: &mut BTreeSet<EntityKey>,
     groups: &BTreeMap<Moment, BTreeSet<EntityKey>>,
     low: Moment,
@@ -82,7 +81,7 @@ pub(crate) fn put_between(
     ensures { OnOk result ((k : Key) → contains key_cmp keys.new k ≡ (contains key_cmp keys.old k || list_any (between low high k) (stamps_of groups.now.entries))) }
 {
     for (_, group) in groups.range((Bound::Excluded(low), Bound::Included(high))) {
-        put_copies(alloc, keys, group)?;
+        put_copies(keys, group)?;
     }
     Ok(())
 }

@@ -112,7 +112,7 @@ impl StampIndex {
             stamp: u64::MAX,
         };
         let mut keys = BTreeSet::new(alloc);
-        put_between(alloc, &mut keys, &self.groups, low, high)?;
+        put_between(&mut keys, &self.groups, low, high)?;
         let found = keys_in_order(alloc, keys)?;
         Ok(found)
     }

@@ -16,16 +16,18 @@ use crate::touch::{come, touched};
 use feed_values::Text;
 use history_rules::StampIndex;
 use pairing_rules::{PairIndex, PairRow};
-use rule_table::{EntityKey, Kind, PairView};
+use rule_table::{EntityId, EntityKey, Kind, PairView};
 use std::alloc::{AllocError, Global};
 use std::{env, io};
 
 /// A text of a letter and a number.
 pub fn text(alloc: Global, letter: char, number: u32) -> Result<Text, AllocError> {
     let spelled = format!(in alloc; "{letter}{number}")?;
-    let mut text = Text::new(alloc);
-    text.push(spelled.as_str())?;
-    Ok(text)
+    Text::of(alloc, spelled.as_str())
+}
+
+fn id(alloc: Global, number: u32) -> Result<EntityId, AllocError> {
+    EntityId::of(alloc, text(alloc, 'e', number)?.as_str())
 }
 
 fn kind_of(number: u32) -> Kind {
@@ -54,7 +56,7 @@ fn row(alloc: Global, number: u32, trips: u32) -> Result<PairRow, AllocError> {
     Ok(PairRow {
         kind: kind_of(number),
         feed: (number % 16) as u8,
-        id: text(alloc, 'e', place)?,
+        id: id(alloc, place)?,
         occurrence: 0,
         trip: Some(text(alloc, 't', share(place, trips))?),
         vehicle: Some(text(alloc, 'v', share(place, trips))?),
@@ -65,7 +67,7 @@ fn row(alloc: Global, number: u32, trips: u32) -> Result<PairRow, AllocError> {
 pub fn key(alloc: Global, number: u32) -> Result<EntityKey, AllocError> {
     Ok(EntityKey {
         feed: (number % 16) as u8,
-        id: text(alloc, 'e', scattered(number))?,
+        id: id(alloc, scattered(number))?,
         occurrence: 0,
     })
 }

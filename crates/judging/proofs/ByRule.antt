@@ -3,7 +3,7 @@ use Rattle.std.specs.Prelude.{◌≡◌, ◌⊎◌, ℕ, ◌+◌, ◌≤◌, ◌
 use Rattle.std.specs.Ordering.{nat_cmp, is_lt}
 use Rattle.std.specs.List.Sorted.{ties, IsStableByKey, IsNonDecreasingBy}
 use Rattle.std.proofs.Common.{inl, inr, sym, ap, ◌∙◌, arith}
-use Rattle.std.proofs.lemmas.Bool.{and_parts}
+use Rattle.std.proofs.lemmas.Bool.{and_parts, or_parts}
 use borrow.Author.Tests.{eqb-true, eqb-false, eq-eqb, ne_eqb, leb-true, leb-false, ltb-true, ltb-false, both_ways}
 use Rattle.rule_table.specs.declared.rule.RuleId.{RuleId}
 use Rattle.rule_table.specs.EachRule.{each_rule}
@@ -36,10 +36,6 @@ ties_are a b = ap (λ x. not x && not (is_lt (nat_cmp b a))) (less_is a b) ∙ a
   either false false p q = sym (eq-eqb b a (same (ltb-false a b p) (ltb-false b a q))) where
     same : b ≤ a → a ≤ b → b ≡ a
     same x y = omega arith
-
-pub or_false : (a b : Bool) → (a || b) ≡ false → (a ≡ false) × (b ≡ false)
-or_false true b h = cc
-or_false false b h = (refl, h)
 
 -- the numbers rise from one on
 abbrev rise : ℕ → List RuleId → Bool
@@ -89,7 +85,7 @@ module _ {A : Type 0} (rule_of : A → RuleId) where
   drop_head : (rules : List RuleId) (f : A) (fs : List A) → has_rule rules (rule_of f) ≡ false → by_rule rules (f ∷ fs) ≡ by_rule rules fs
   drop_head [] f fs h = refl
   drop_head (r ∷ rules) f fs h =
-      let hs = or_false (rule_number r == rule_number (rule_of f)) (has_rule rules (rule_of f)) h in
+      let hs = or_parts (rule_number r == rule_number (rule_of f)) (has_rule rules (rule_of f)) h in
       both_same (ap (λ b. cond b (f ∷ filter (of_rule r) fs) (filter (of_rule r) fs)) (other_way (rule_number r) (rule_number (rule_of f)) hs.0)) (drop_head rules f fs hs.1)
 
   first_stays : (n : ℕ) (rules : List RuleId) → rise n rules ≡ true → (f : A) (fs : List A) → has_rule rules (rule_of f) ≡ true → Each (λ g. rule_number (rule_of f) ≤ rule_number (rule_of g)) fs → by_rule rules (f ∷ fs) ≡ f ∷ by_rule rules fs

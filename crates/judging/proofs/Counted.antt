@@ -8,7 +8,7 @@ use Rattle.feed_values.specs.declared.entity.Entity.{Entity}
 use Rattle.feed_values.specs.Views.{entity_value}
 use Rattle.judging.specs.Seats.{id_of, count_id}
 
-count_last : (es : List (Value entity)) (e : Value entity) (id : List ℕ) → count_id (es ++ e ∷ []) id ≡ cond (bytes_eq (id_of e) id) 1 0 + count_id es id
+pub count_last : (es : List (Value entity)) (e : Value entity) (id : List ℕ) → count_id (es ++ e ∷ []) id ≡ cond (bytes_eq (id_of e) id) 1 0 + count_id es id
 count_last [] e id = refl
 count_last (x ∷ es) e id = ap (λ n. cond (bytes_eq (id_of x) id) 1 0 + n) (count_last es e id) ∙ moved (cond (bytes_eq (id_of x) id) 1 0) (cond (bytes_eq (id_of e) id) 1 0) (count_id es id)
   where

@@ -8,11 +8,12 @@ use Rattle.rule_table.specs.Answers.{Gathered, Heads, heads_answer}
 use Rattle.rule_table.specs.Judged.{head_found_all}
 use Rattle.rule_table.specs.SameHeads.{heads_same}
 use Rattle.rule_table.specs.Sources.{source_of, is_headed}
+use Rattle.rule_history.specs.Answered.{shared_answer}
 use Rattle.history_rules.specs.Rules.{head_rules}
-use Rattle.judging.specs.Whole.{feed_answer, header_found}
+use Rattle.judging.specs.Whole.{header_found}
 
 module _ (t : Option Tables) (u : Gathered) (heads : Heads) where
-  same : (q : Ask) → is_headed (source_of q) ≡ true → heads_answer heads q ≡ feed_answer t u heads q
+  same : (q : Ask) → is_headed (source_of q) ≡ true → heads_answer heads q ≡ shared_answer t u heads q
   same (ask.HeadNow s) h = refl
   same (ask.HeadBefore s) h = refl
   same ask.Moment h = refl
@@ -22,4 +23,4 @@ module _ (t : Option Tables) (u : Gathered) (heads : Heads) where
   -- the rules that aren't in the group have no place on a header
   pub headed_all : (f : ℕ) → head_found_all head_rules (heads_answer heads) f ≡ header_found t u heads f
   unfolding header_found
-  headed_all f = heads_same (heads_answer heads) (feed_answer t u heads) same f head_rules refl
+  headed_all f = heads_same (heads_answer heads) (shared_answer t u heads) same f head_rules refl

@@ -8,6 +8,8 @@ use Rattle.std.specs.Ordering.{is_eq, ordering_reverse, match_ordering}
 use Rattle.std.specs.BTreeMap.{insert_entry}
 use Rattle.std.proofs.Common.{sym, ap, ◌∙◌, arith, eq-eqb}
 use Rattle.std.proofs.Math.Path.{fun_ext}
+use Rattle.std.proofs.lemmas.Bool.{true≢false}
+use Rattle.std.proofs.lemmas.List.{append-nil}
 use borrow.Author.Tests.{eqb-true, ne_eqb}
 use Rattle.feed_values.specs.Schema.{Value}
 use Rattle.feed_values.specs.Messages.{entity}
@@ -26,15 +28,14 @@ use Rattle.rule_table.specs.CitedLaws.{both_same}
 use Rattle.rule_table.specs.Pairs.{PairRow, rows_of}
 use Rattle.rule_table.specs.Peaks.{greatest, no_peaks}
 use Rattle.rule_history.specs.History.{Snapshot, Keyed, now, before, entities, entities_in, entities_of_snapshot, keyed_after, ordered_after, count_id, id_of, below, feed_limit, first_of, second_of}
-use Rattle.rule_table.specs.Answers.{Gathered, Heads, entity_answer, heads_answer, gathered_answer}
-use Rattle.rule_history.specs.Answered.{heads_of, timetable_answer, rows_in, rows, gathered, feed_answer, payload_under}
+use Rattle.rule_table.specs.Answers.{Gathered, Heads, entity_answer}
+use Rattle.rule_history.specs.Answered.{heads_of, rows_in, rows, gathered, shared_answer, feed_answer, payload_under}
 use Rattle.rule_history.specs.Peaks.{all_but_first, peak, stamps_in}
 use Rattle.rule_history.specs.Findings.{entity_findings, feed_findings, findings}
 use Rattle.rule_table.proofs.SameKeys.{keys_total, same-key}
 use Rattle.rule_history.proofs.Keyed.{each_ordered, rising_after, keyed_feed}
 use Rattle.judging.specs.Seats as seat
 use Rattle.judging.specs.Seats.{Seat, Rising, seated_after, seats}
-use Rattle.judging.specs.Whole as whole
 use Rattle.judging.specs.Whole.{rows_alone, entity_found, header_found}
 use Rattle.judging.specs.Judged.{first_heads, seat_rows, found_at_seats, snapshot_found, OneSnapshot}
 
@@ -127,10 +128,6 @@ below_none part (suc n) h = both_same (below_none part n (λ g l. h g (up g l)))
     last : (m : ℕ) → m < suc m
     last m = omega arith
 
-append_none : {A : Type 0} (xs : List A) → (xs ++ []) ≡ xs
-append_none [] = refl
-append_none (x ∷ xs) = ap (λ ys. x ∷ ys) (append_none xs)
-
 below_one : {A : Type 0} (part : ℕ → List A) (f : ℕ) → ((g : ℕ) → (f == g) ≡ false → part g ≡ []) → (n : ℕ) → f < n → below part n ≡ part f
 below_one part f h zero l = absurd (none l)
   where
@@ -139,10 +136,7 @@ below_one part f h zero l = absurd (none l)
 below_one part f h (suc n) l = either (f == n) refl (λ e. below_one part f h n (under f n l e))
   where
     under : (a b : ℕ) → a < suc b → (a == b) ≡ false → a < b
-    under a b p q = smaller (λ e. apart (sym (eq-eqb a b e) ∙ q)) p where
-      apart : true ≡ false → ⊥
-      apart x = cc
-
+    under a b p q = smaller (λ e. true≢false (sym (eq-eqb a b e) ∙ q)) p where
       smaller : (a ≡ b → ⊥) → a < suc b → a < b
       smaller other m = omega (arith, m, other)
 
@@ -153,7 +147,7 @@ below_one part f h (suc n) l = either (f == n) refl (λ e. below_one part f h n 
     either true e ih =
         let same : f ≡ n = eqb-true f n e in
         both_same (below_none part n (λ g a. h g (ne_eqb f g (differs g n a same)))) (ap part (sym same))
-    either false e ih = both_same (ih e) (h n e) ∙ append_none (part f)
+    either false e ih = both_same (ih e) (h n e) ∙ append-nil (part f)
 
 module _ (t : Option Tables) (s : Snapshot) where
   abbrev h : List Snapshot
@@ -199,13 +193,13 @@ module _ (t : Option Tables) (s : Snapshot) where
 
   -- what is answered of the feed
   abbrev told : Gathered → Ask → Option CellValue
-  told r = whole.feed_answer t r heads
+  told r = shared_answer t r heads
 
   header_is : (r : Gathered) → gathered h ≡ r → head_found_all all_rules (feed_answer t h s.feed) s.feed ≡ header_found t r heads s.feed
   unfolding header_found
   header_is r e =
-      ap (λ o. head_found_all all_rules (λ a. option_and_then (λ x. option_or (heads_answer (heads_of x (before h s.feed)) a) (option_or (timetable_answer t a) (gathered_answer (gathered h) a))) o) s.feed) now_here
-      ∙ ap (λ p. head_found_all all_rules (λ a. option_or (heads_answer (heads_of s p) a) (option_or (timetable_answer t a) (gathered_answer (gathered h) a))) s.feed) none_before
+      ap (λ o. head_found_all all_rules (λ a. option_and_then (λ x. shared_answer t (gathered h) (heads_of x (before h s.feed)) a) o) s.feed) now_here
+      ∙ ap (λ p. head_found_all all_rules (λ a. shared_answer t (gathered h) (heads_of s p) a) s.feed) none_before
       ∙ ap (λ u. head_found_all all_rules (told u) s.feed) e
 
   -- at an entity of the snapshot
@@ -214,8 +208,8 @@ module _ (t : Option Tables) (s : Snapshot) where
   entity_is r u e f p =
       ap (λ g. found_all all_rules (λ a. option_and_then (λ q. option_or (entity_answer e.0 (entity_of q) a) (feed_answer t h g a)) (payload_under e.0 (entities h g))) e.0 (entity_of e.1)) f
       ∙ ap (λ o. found_all all_rules (λ a. option_and_then (λ q. option_or (entity_answer e.0 (entity_of q) a) (feed_answer t h s.feed a)) o) e.0 (entity_of e.1)) (ap (payload_under e.0) entities_here ∙ p)
-      ∙ ap (λ o. found_all all_rules (λ a. option_or (entity_answer e.0 (entity_of e.1) a) (option_and_then (λ x. option_or (heads_answer (heads_of x (before h s.feed)) a) (option_or (timetable_answer t a) (gathered_answer (gathered h) a))) o)) e.0 (entity_of e.1)) now_here
-      ∙ ap (λ b. found_all all_rules (λ a. option_or (entity_answer e.0 (entity_of e.1) a) (option_or (heads_answer (heads_of s b) a) (option_or (timetable_answer t a) (gathered_answer (gathered h) a)))) e.0 (entity_of e.1)) none_before
+      ∙ ap (λ o. found_all all_rules (λ a. option_or (entity_answer e.0 (entity_of e.1) a) (option_and_then (λ x. shared_answer t (gathered h) (heads_of x (before h s.feed)) a) o)) e.0 (entity_of e.1)) now_here
+      ∙ ap (λ b. found_all all_rules (λ a. option_or (entity_answer e.0 (entity_of e.1) a) (shared_answer t (gathered h) (heads_of s b) a)) e.0 (entity_of e.1)) none_before
       ∙ ap (λ v. found_all all_rules (λ a. option_or (entity_answer e.0 (entity_of e.1) a) (told v a)) e.0 (entity_of e.1)) u
 
   entities_are : (r : Gathered) → gathered h ≡ r → (ds : List Keyed) → Each (λ e. e.0.feed ≡ s.feed) ds → Each (IsFound es) ds

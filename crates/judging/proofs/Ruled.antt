@@ -4,8 +4,9 @@ use Rattle.std.specs.List.{list_all}
 use Rattle.std.proofs.Common.{sym, ap, ◌∙◌}
 use Rattle.std.proofs.lemmas.List.Elements.{filter-append}
 use borrow.Author.Tests.{eqb-true}
-use Rattle.std.proofs.lemmas.Bool.{and_parts}
+use Rattle.std.proofs.lemmas.Bool.{and_parts, or_parts}
 use Rattle.std.proofs.lemmas.Option.{same_Some}
+use Rattle.std.proofs.lemmas.List.{append-nil}
 use Rattle.feed_values.specs.declared.slot.Slot.{Slot}
 use Rattle.feed_values.specs.declared.cell_value.CellValue.{CellValue}
 use Rattle.feed_values.specs.Schema.{Value}
@@ -22,12 +23,9 @@ use Rattle.rule_table.specs.Groups.{IsOf, IsUnder, has_rule, has_number, are_apa
 use Rattle.rule_table.specs.GroupLaws.{each_weaken, row_own, apart_first, apart_rest}
 use Rattle.rule_table.specs.CitedLaws.{both_same}
 use Rattle.judging.specs.Ruled.{of_rule, by_rule}
-use Rattle.judging.proofs.ByRule.{filter_when, or_false}
+use Rattle.judging.proofs.ByRule.{filter_when}
 
 -- ---- lists
-append_none : (fs : List Found) → (fs ++ []) ≡ fs
-append_none [] = refl
-append_none (f ∷ fs) = ap (λ xs. f ∷ xs) (append_none fs)
 
 -- ---- rules by their numbers
 same_is : (q r : RuleId) → same_rule q r ≡ true → q ≡ r
@@ -65,13 +63,13 @@ module _ (answer : Ask → Option CellValue) (k : EntityKey) (e : Value entity) 
       ∙ joined (same_rule q r) refl
     where
       none : (has_rule rules q || false) ≡ false → rule_number q ≡ rule_number r → has_rule rules r ≡ false
-      none h n = sym (ap (has_number rules) n) ∙ (or_false (has_rule rules q) false h).0
+      none h n = sym (ap (has_number rules) n) ∙ (or_parts (has_rule rules q) false h).0
 
       joined : (b : Bool) → same_rule q r ≡ b → (cond b (found_by q answer k e) [] ++ cond (has_rule rules r) (found_by r answer k e) []) ≡ cond (b || has_rule rules r) (found_by r answer k e) []
       joined false h = refl
       joined true h =
           ap (λ c. found_by q answer k e ++ cond c (found_by r answer k e) []) (none (apart_first q rules a) (eqb-true (rule_number q) (rule_number r) h))
-          ∙ append_none (found_by q answer k e) ∙ ap (λ s. found_by s answer k e) (same_is q r h)
+          ∙ append-nil (found_by q answer k e) ∙ ap (λ s. found_by s answer k e) (same_is q r h)
 
   -- ---- and those of a list of rules, rule by rule
   no_places : (r : RuleId) (slots : List Slot) → is_empty slots ≡ true → found_in r answer k e slots ≡ []

@@ -7,8 +7,8 @@ use Rattle.feed_values.specs.declared.cell_value.CellValue.{CellValue}
 use Rattle.timetable.specs.Timetables.{Tables}
 use Rattle.rule_table.specs.declared.ask.Ask.{Ask}
 use Rattle.rule_table.specs.declared.key.EntityKey.{EntityKey}
-use Rattle.rule_table.specs.Answers.{Heads, Gathered, entity_answer, heads_answer, gathered_answer}
-use Rattle.rule_history.specs.Answered.{timetable_answer}
+use Rattle.rule_table.specs.Answers.{Heads, Gathered, entity_answer}
+use Rattle.rule_history.specs.Answered.{shared_answer}
 use Rattle.rule_table.specs.Found.{Found}
 use Rattle.rule_table.specs.Judged.{found_all, head_found_all}
 use Rattle.rule_table.specs.Pairs.{PairRow}
@@ -19,13 +19,9 @@ use Rattle.rule_table.specs.Table.{all_rules}
 abbrev pub rows_alone : List PairRow → Gathered
 rows_alone rows = record { rows = rows; peaks = no_peaks }
 
--- what is answered of a feed: by its headers, the timetable, the pairing rows and the peaks
-abbrev pub feed_answer : Option Tables → Gathered → Heads → Ask → Option CellValue
-feed_answer t u heads a = option_or (heads_answer heads a) (option_or (timetable_answer t a) (gathered_answer u a))
-
--- what is answered at an entity: by itself, and of its feed
+-- what is answered at an entity: by itself, and at all places of its feed
 abbrev pub whole_answer : Option Tables → Gathered → Heads → EntityKey → Value entity → Ask → Option CellValue
-whole_answer t u heads key e a = option_or (entity_answer key e a) (feed_answer t u heads a)
+whole_answer t u heads key e a = option_or (entity_answer key e a) (shared_answer t u heads a)
 
 -- every rule at every place of an entity
 unfoldable pub entity_found : Option Tables → Gathered → Heads → EntityKey → Value entity → List Found
@@ -33,4 +29,4 @@ entity_found t u heads key e = found_all all_rules (whole_answer t u heads key e
 
 -- every rule at every place of a header
 unfoldable pub header_found : Option Tables → Gathered → Heads → ℕ → List Found
-header_found t u heads feed = head_found_all all_rules (feed_answer t u heads) feed
+header_found t u heads feed = head_found_all all_rules (shared_answer t u heads) feed

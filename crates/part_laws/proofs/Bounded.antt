@@ -4,8 +4,7 @@ use Rattle.std.specs.Int.{int_min}
 use Rattle.std.specs.BTreeMap.{insert_entry}
 use Rattle.std.specs.List.{list_any, list_all, flat_map, find, AllByRecursion}
 use Rattle.std.proofs.Common.{inl, inr, sym, ap, ◌∙◌, subst, arith}
-use Rattle.std.proofs.lemmas.Bool.{and_parts}
-use Rattle.std.proofs.lemmas.Bool.Decides.{Decides-int_eq}
+use Rattle.std.proofs.lemmas.Bool.{and_parts, or_parts, or_left, or_right}
 use Rattle.std.proofs.lemmas.Int.{by_lt_z, ints, clamps}
 use Rattle.std.proofs.lemmas.Option.{same_Some}
 use borrow.Author.Tests.{eqb-true, clash}
@@ -44,12 +43,13 @@ use Rattle.rule_history.specs.Answered.{gathered, payload_under, feed_answer}
 use Rattle.rule_history.specs.Findings.{feed_findings, entity_findings}
 use Rattle.rule_history.specs.Changed.{with, same_number, keeps_bounds, is_bound_at, is_under, has_bound, in_tested, in_bounded}
 use Rattle.rule_history.proofs.Keyed.{each_put}
+use Rattle.rule_history.proofs.SameSnapshots.{same_numbers}
 use Rattle.history_rules.specs.Rules.{bound_rules, bound_of}
 use Rattle.history_rules.specs.Exact.{rules_exact, rules_at}
 use Rattle.engine_laws.specs.HeldFeeds.{held_answer}
 use Rattle.engine_laws.proofs.Lists.{any_left, any_right, any_below}
 use Rattle.engine_laws.proofs.Longer.{now-feed, now-other, now-same, now_each, entity-found}
-use Rattle.engine_laws.proofs.Spots.{key_is, key_self, or_left, or_right, or_false}
+use Rattle.engine_laws.proofs.Spots.{key_is, key_self}
 use Rattle.part_laws.specs.Parts.{FindBounded, IsThere, bounded_part}
 use Rattle.part_laws.specs.Bounded.{BoundedStays, IsBounding, AreNumbersHeld, NoneAbove, low_bound, NoneIsBounded, BoundsAreLow}
 use Rattle.part_laws.proofs.Stays.{was_there, other_way}
@@ -242,11 +242,6 @@ numbers_held s taken k p under slot is = at slot is
     at _ h = cc
 
 -- ---- one more snapshot
-same_numbers : (a b : Option ℤ) → same_number a b ≡ true → a ≡ b
-same_numbers None None h = refl
-same_numbers None (Some b) h = cc
-same_numbers (Some a) None h = cc
-same_numbers (Some a) (Some b) h = ap Some ((Decides-int_eq a b).0 h)
 
 taken_of : (h : List Snapshot) → IsHistory h → (f : ℕ) (s : Snapshot) → now h f ≡ Some s → IsTaken s
 taken_of h all f s is = now_each IsTaken h f s (each_of h all) is
@@ -289,7 +284,7 @@ module _ (find : FindBounded) (rules : List RuleId) (bound : RuleId → Bound) (
       ] refl parts.1
     where
       parts : (in_tested g s e ≡ false) × (in_bounded t g s e ≡ false)
-      parts = or_false (in_tested g s e) (in_bounded t g s e) out
+      parts = or_parts (in_tested g s e) (in_bounded t g s e) out
 
       old : IsThere g e
       old = was_there g s e there parts.0
@@ -310,5 +305,5 @@ module _ (find : FindBounded) (rules : List RuleId) (bound : RuleId → Bound) (
               ap (λ x. find x p.moment e.0 (entity_of e.1)) (sym (same_numbers (timestamp_of (header_of s.bytes)) (timestamp_of (header_of p.bytes)) k.0))
               ∙ ap (λ m. find (timestamp_of (header_of s.bytes)) m e.0 (entity_of e.1)) (sym (eqb-true s.moment p.moment k.1))
           choose p was last false keeps h =
-              let none = or_false (has_bound t g e.0) (has_bound t (with g s) e.0) h in
+              let none = or_parts (has_bound t g e.0) (has_bound t (with g s) e.0) h in
               none_there t g e p (front g s all) was old none.0 ∙ sym (none_there t (with g s) e s all last there none.1)

@@ -13,9 +13,10 @@ use Rattle.rule_table.specs.EachRule.{each_rule}
 use Rattle.rule_table.specs.Groups.{Each, has_rule, has_number}
 use Rattle.rule_table.specs.GroupLaws.{each_append, each_weaken}
 use Rattle.rule_history.specs.Standing.{Standing}
-use Rattle.engine_laws.proofs.Lists.{both, filter-none, filter-all}
+use Rattle.engine_laws.proofs.Lists.{filter-none, filter-all}
 use Rattle.standing_walks.specs.Merged.{number, with_first, merged}
 use Rattle.rule_table.specs.ByRule.{each_by_rule}
+use Rattle.rule_table.specs.CitedLaws.{both_same}
 
 abbrev pub of_rule : RuleId → Standing → Bool
 of_rule r x = same_rule x.finding.rule r
@@ -180,4 +181,4 @@ twice_ruled xs = go all_rules
     go : (rules : List RuleId) → ruled rules (ruled all_rules xs) ≡ ruled rules xs
     go [] = refl
     go (r ∷ rules) =
-        both (filter-ruled (of_rule r) all_rules xs ∙ one_ruled (rule_number r) 0 all_rules all_rise (known r) (filter (of_rule r) xs) (filtered r xs)) (go rules)
+        both_same (filter-ruled (of_rule r) all_rules xs ∙ one_ruled (rule_number r) 0 all_rules all_rise (known r) (filter (of_rule r) xs) (filtered r xs)) (go rules)

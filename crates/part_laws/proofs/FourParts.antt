@@ -15,11 +15,12 @@ use Rattle.rule_table.specs.Groups.{Each, NoneInBoth, has_number, has_rule}
 use Rattle.rule_table.specs.GroupLaws.{any_both, each_weaken}
 use Rattle.rule_history.specs.Standing.{Standing, Spot, same_spot, same_finding, stands, was, opened, closed, spots_of}
 use Rattle.engine_laws.specs.Standings.{findings_of, since_in, numbered, renewed}
-use Rattle.engine_laws.proofs.Lists.{both, filter-none, filter-same}
+use Rattle.engine_laws.proofs.Lists.{filter-none, filter-same}
 use Rattle.engine_laws.proofs.Since.{renewed-same, renewed-append}
 use Rattle.engine_laws.proofs.Spots.{is_false, having, first_since, is_some_one, since-having, any-having, was-having}
 use Rattle.standing_walks.specs.Merged.{merged, merged_four}
 use Rattle.rule_table.specs.ByRule.{each_by_rule}
+use Rattle.rule_table.specs.CitedLaws.{both_same}
 use Rattle.part_laws.specs.FourParts.{AreFourGroups, AreFoundOf, StandOf, AreParts, IsInRuleOrder, found_in_order, standings_in_order, spots_in_order, MergedIsByRule, MergedRenews, MergedOpens, MergedCloses}
 use Rattle.part_laws.proofs.ByRule.{of_rule, Apart, all_rise, merged-ruled, filter-ruled, mapped-ruled, twice_ruled}
 use Rattle.part_laws.proofs.AtSpot.{left_alone, right_alone, neither}
@@ -101,7 +102,7 @@ apart p q n a b ha hb r =
     ] refl
 
 two_none : (test : Standing → Bool) (xs ys : List Standing) → filter test xs ≡ [] → filter test ys ≡ [] → filter test (xs ++ ys) ≡ []
-two_none test xs ys h k = filter-append test xs ys ∙ both h k
+two_none test xs ys h k = filter-append test xs ys ∙ both_same h k
 
 module _ (p q r s : List RuleId) (a b c d : List Standing) (are : AreParts p q r s a b c d) where
   halves : Apart (a ++ b) (c ++ d)
@@ -129,7 +130,7 @@ four : {a b c d e f g h : List Standing} → a ≡ e → b ≡ f → c ≡ g →
 four i j k l = cc
 
 joined : {A : Type 0} {a b c d e f g h : List A} → a ≡ e → b ≡ f → c ≡ g → d ≡ h → ((a ++ b) ++ (c ++ d)) ≡ ((e ++ f) ++ (g ++ h))
-joined i j k l = both (both i j) (both k l)
+joined i j k l = both_same (both_same i j) (both_same k l)
 
 pub merged_is_by_rule : MergedIsByRule
 merged_is_by_rule p q r s a b c d are order = four (sym order.first) (sym order.second) (sym order.third) (sym order.fourth) ∙ merged-four-ruled p q r s a b c d are
@@ -181,7 +182,7 @@ module _ (p q r s : List RuleId) (a b c d : List Standing) (are : AreParts p q r
       (part d s (λ x e. in_fourth p q r s a b c d are (same_spot x) (rule_number x.rule) (sees_spot x) e) i hi)
       ∙ merged-four-ruled p q r s (renewed all n f) (renewed all n g) (renewed all n h) (renewed all n i)
       (record { groups = are.groups; first = renewed_of p all n f hf; second = renewed_of q all n g hg; third = renewed_of r all n h hh; fourth = renewed_of s all n i hi })
-      ∙ ap standings_in_order (sym (renewed-append all n (f ++ g) (h ++ i) ∙ both (renewed-append all n f g) (renewed-append all n h i)))
+      ∙ ap standings_in_order (sym (renewed-append all n (f ++ g) (h ++ i) ∙ both_same (renewed-append all n f g) (renewed-append all n h i)))
       ∙ ordered-renewed all n ((f ++ g) ++ (h ++ i))
 
 -- and findings in the order of rules, numbered, are so
@@ -205,7 +206,7 @@ module _ (p q r s : List RuleId) (a b c d : List Standing) (are : AreParts p q r
   filter-four one two three last h i j k =
       filter-ruled test all_rules ((a ++ b) ++ (c ++ d))
       ∙ ap standings_in_order
-      (filter-append test (a ++ b) (c ++ d) ∙ both (filter-append test a b) (filter-append test c d)
+      (filter-append test (a ++ b) (c ++ d) ∙ both_same (filter-append test a b) (filter-append test c d)
       ∙ joined (filter-same test one a h) (filter-same test two b i) (filter-same test three c j) (filter-same test last d k))
 
 abbrev new : List Standing → Standing → Bool
@@ -241,7 +242,7 @@ unfolding spot_of
 ordered-spots xs = sym (mapped-ruled spot_of (λ x. x.finding.rule) (λ x. x.rule) (λ x. refl) all_rules xs)
 
 map-four : (a b c d : List Standing) → map spot_of ((a ++ b) ++ (c ++ d)) ≡ ((map spot_of a ++ map spot_of b) ++ (map spot_of c ++ map spot_of d))
-map-four a b c d = map-append spot_of (a ++ b) (c ++ d) ∙ both (map-append spot_of a b) (map-append spot_of c d)
+map-four a b c d = map-append spot_of (a ++ b) (c ++ d) ∙ both_same (map-append spot_of a b) (map-append spot_of c d)
 
 pub merged_closes : MergedCloses
 merged_closes p q r s a b c d e f g h are later order =

@@ -19,8 +19,6 @@ use Rattle.engine_laws.proofs.Spots.{is_false, key_is, key_self}
 use Rattle.part_laws.specs.Touched.{is_among, TouchedOpen, TouchedClose}
 
 -- ---- keys of a list
-less_not : (a b : EntityKey) → key_cmp a b ≡ order.Less → same_key a b ≡ false
-less_not a b h = less_other a b h
 
 more_not : (a b : EntityKey) → key_cmp b a ≡ order.Less → same_key a b ≡ false
 more_not a b h = is_false (same_key a b) (λ e. clash (less_other b a h) (ap (same_key b) (key_is a b e) ∙ key_self b))
@@ -51,7 +49,7 @@ module _ {B : Type 0} (F : EntityKey → List B) where
 
   -- where a key isn't one of those that come after a first, it isn't one of all
   past : (e : EntityKey) (es ts : List EntityKey) → Each (λ t. key_cmp e t ≡ order.Less) ts → Each (Covers (e ∷ es)) ts → Each (Covers es) ts
-  past e es ts far h = each_both (λ t. key_cmp e t ≡ order.Less) (Covers (e ∷ es)) (Covers es) (λ t l c n. c (ap (λ b. b || is_among es t) (less_not e t l) ∙ n)) ts far h
+  past e es ts far h = each_both (λ t. key_cmp e t ≡ order.Less) (Covers (e ∷ es)) (Covers es) (λ t l c n. c (ap (λ b. b || is_among es t) (less_other e t l) ∙ n)) ts far h
 
   abbrev Alike : List EntityKey → List EntityKey → Type 0
   Alike es ts = Rises key_cmp es → Rises key_cmp ts → Each (Covers es) ts → Each (Covers ts) es → flat_map F es ≡ flat_map F ts

@@ -1,27 +1,19 @@
 -- What one more snapshot leaves as it is at an entity.
-use Rattle.std.specs.Prelude.{◌≡◌, ℕ, ◌==◌, ◌&&◌, not, Bool, true, false, List, Option, Some, None, option_map, bytes_eq, refl}
+use Rattle.std.specs.Prelude.{◌≡◌, ℕ, ◌==◌, ◌&&◌, not, true, false, List, Some, option_map, refl}
 use Rattle.std.proofs.Common.{sym, ap, ◌∙◌, subst}
-use Rattle.std.proofs.lemmas.Slice.Eq.{bytes_eq-Decides}
+use Rattle.std.proofs.lemmas.Bool.{or_parts}
 use borrow.Author.Tests.{eqb-true, eqb-false, ne_eqb}
 use Rattle.feed_values.specs.Snapshot.{entity_of}
 use Rattle.rule_history.specs.History.{Snapshot, Keyed, entities, entities_of_snapshot}
 use Rattle.rule_history.specs.Answered.{rows, payload_under}
 use Rattle.rule_history.specs.Peaks.{peak}
 use Rattle.rule_history.specs.Changed.{with, is_payload, in_tested, in_paired, in_peaked}
+use Rattle.rule_history.proofs.SameSnapshots.{same_payload}
 use Rattle.engine_laws.proofs.Longer.{now-other}
 use Rattle.engine_laws.proofs.Pairing.{pairing_stays}
 use Rattle.engine_laws.proofs.Peaking.{peaking_stays}
-use Rattle.engine_laws.proofs.Spots.{or_false}
 use Rattle.part_laws.specs.Parts.{FindLocal, FindPaired, FindPeaked, IsThere}
 use Rattle.part_laws.specs.Stays.{LocalStays, PairedStays, PeakedStays, IsPairing, IsPeaking}
-
-same_payload : (p : List ℕ) (o : Option (List ℕ)) → not (is_payload p o) ≡ false → o ≡ Some p
-same_payload p None h = cc
-same_payload p (Some q) h = ap Some (sym ((bytes_eq-Decides p q).0 (is_true (bytes_eq p q) h)))
-  where
-    is_true : (b : Bool) → not b ≡ false → b ≡ true
-    is_true true k = refl
-    is_true false k = cc
 
 pub other_way : (a b : ℕ) → (a == b) ≡ false → (b == a) ≡ false
 other_way a b h = ne_eqb b a (λ e. eqb-false a b h (sym e))
@@ -39,7 +31,7 @@ local_stays find t g s e there out = ap (option_map (λ p. find t e.0 (entity_of
 
 pub paired_stays : (find : FindPaired) → IsPairing find → PairedStays find
 paired_stays find is g s e l there out =
-    let parts = or_false (in_tested g s e) (in_paired g s e) out in
+    let parts = or_parts (in_tested g s e) (in_paired g s e) out in
     let old : IsThere g e = was_there g s e there parts.0 in
     ap (option_map (λ p. find (rows g) e.0 (entity_of p))) old
     ∙ ap Some (pairing_stays find is.agree is.none g s e l old there parts.1)
@@ -47,7 +39,7 @@ paired_stays find is g s e l there out =
 
 pub peaked_stays : (find : FindPeaked) → IsPeaking find → PeakedStays find
 peaked_stays find is g s e there out =
-    let parts = or_false (in_tested g s e) (in_peaked g s e) out in
+    let parts = or_parts (in_tested g s e) (in_peaked g s e) out in
     ap (option_map (λ p. find (peak g) e.0 (entity_of p))) (was_there g s e there parts.0)
     ∙ ap Some (peaking_stays find is.same g s e parts.1)
     ∙ sym (ap (option_map (λ p. find (peak (with g s)) e.0 (entity_of p))) there)

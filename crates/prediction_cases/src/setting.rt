@@ -47,7 +47,7 @@ impl Setting {
                 self.table = Box::new(self.alloc, table)?;
                 Ok(())
             }
-            Err(fault) => say_some(self.alloc, out, Some(fault)),
+            Err(fault) => say(out, format!(in self.alloc; "{fault:?}")?.as_str()),
         }
     }
 

@@ -10,9 +10,8 @@ fn text_of(alloc: Global, words: &[String], name: &str) -> Result<Option<Text>, 
     let Some(spelled) = text_at(words, name) else {
         return Ok(None);
     };
-    let mut text = Text::new(alloc);
-    text.push(spelled.replace(alloc, "\\n", "\n")?.as_str())?;
-    Ok(Some(text))
+    let text = spelled.replace(alloc, "\\n", "\n")?;
+    Ok(Some(Text::of(alloc, text.as_str())?))
 }
 
 /// The trip of `trip ID time START_TIME date START_DATE relationship NUMBER`, of which each may be left out.

@@ -6,7 +6,7 @@ use Rattle.std.proofs.Math.Seq.{take-append_seam}
 use Rattle.std.proofs.lemmas.Bool.{cases_lt, cases_eq, eq-eqb, ne_eqb}
 use Rattle.std.proofs.lemmas.List.{length-append, length-take, take-append-le, take_more}
 use Rattle.std.proofs.lemmas.List.Elements.{All-head, All-push, All-tail}
-use Rattle.std.proofs.lemmas.Option.{slice_get-get_or, slice_get_within}
+use Rattle.std.proofs.lemmas.Option.{slice_get-get_or, slice_get_within, same_Some}
 use Rattle.feed_values.specs.declared.stop_time_update.StopTimeUpdate.{StopTimeUpdate}
 use Rattle.propagation.specs.Matching.{AreMatches, AreOrdered, IsMatch, StandsAfter, is_at, matcher, next_from}
 use Rattle.propagation.specs.Stops.{IsFirstFrom, Stop, names}
@@ -27,17 +27,14 @@ abbrev pub EachMatch : List Stop → List StopTimeUpdate → List (Option ℕ) �
 EachMatch stops updates matches = (k : ℕ) (u : StopTimeUpdate) (m : Option ℕ) → slice_get updates k ≡ Some u → slice_get matches k ≡ Some m
     → IsMatch stops u (take k matches) m
 
-some_is : {A : Type 0} (x y : A) → Some x ≡ Some y → x ≡ y
-some_is x y e = cc e
-
 each-last : (stops : List Stop) (updates : List StopTimeUpdate) (matches : List (Option ℕ)) (u : StopTimeUpdate) (x : Option ℕ)
     → slice_get updates (length matches) ≡ Some u → IsMatch stops u matches x
     → (v : StopTimeUpdate) (y : Option ℕ) → slice_get updates (length matches) ≡ Some v → slice_get (matches ++ x ∷ []) (length matches) ≡ Some y
     → IsMatch stops v (take (length matches) (matches ++ x ∷ [])) y
 each-last stops updates matches u x at is v y av ay =
     subst (λ e. IsMatch stops v e y) (sym (take-append_seam matches (x ∷ [])))
-    (subst (λ w. IsMatch stops w matches y) (some_is u v (sym at ∙ av))
-    (subst (λ z. IsMatch stops u matches z) (some_is x y (sym (slice_get-seam matches x) ∙ ay)) is))
+    (subst (λ w. IsMatch stops w matches y) (same_Some u v (sym at ∙ av))
+    (subst (λ z. IsMatch stops u matches z) (same_Some x y (sym (slice_get-seam matches x) ∙ ay)) is))
 
 -- one more match
 pub each-push : (stops : List Stop) (updates : List StopTimeUpdate) (matches : List (Option ℕ)) (u : StopTimeUpdate) (x : Option ℕ)

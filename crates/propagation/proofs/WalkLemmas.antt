@@ -1,6 +1,7 @@
 -- The walk through the events of a trip, stop by stop.
 use Rattle.std.proofs.Common.{◌≡◌, ◌+◌, ◌*◌, ◌∷◌, ◌++◌, [], ℕ, ℤ, pos, ◌<ℤ◌, ◌≤ℤ◌, ◌+ℤ◌, zero, suc, List, drop, map, slice_get, Some, Option, All, refl, sym, ap, ◌∙◌, arith, add-one, subst, append_assoc}
 use Rattle.std.proofs.lemmas.List.Elements.{All-append, All-weaker}
+use Rattle.std.proofs.lemmas.Option.{same_Some}
 use Rattle.jiff.proofs.SpanFacts.{signed_arith}
 use Rattle.feed_values.specs.declared.stop_time_update.StopTimeUpdate.{StopTimeUpdate}
 use Rattle.propagation.specs.Events.{Event, Own, arrival_at, departure_at, events, events_from, own_of}
@@ -12,12 +13,9 @@ use Rattle.propagation.specs.declared.placed_setter.PlacedSetter.{PlacedSetter}
 use Rattle.propagation.specs.declared.prediction_row.PredictionRow.{PredictionRow}
 use Rattle.propagation.proofs.SetterLemmas.{governing-parts, placed-at, set_from}
 
-some_is : {A : Type 0} (a b : A) → Some a ≡ Some b → a ≡ b
-some_is a b e = cc e
-
 drop-suc : {A : Type 0} (xs : List A) (i : ℕ) (x : A) → slice_get xs i ≡ Some x → drop i xs ≡ x ∷ drop (suc i) xs
 drop-suc [] i x h = absurd (cc h)
-drop-suc (y ∷ xs) zero x h = let e : y ≡ x = some_is y x h in rw e refl
+drop-suc (y ∷ xs) zero x h = let e : y ≡ x = same_Some y x h in rw e refl
 drop-suc (y ∷ xs) (suc i) x h = drop-suc xs i x h
 
 pub drop-at : {A : Type 0} (xs : List A) (i : ℕ) (x : A) → slice_get xs i ≡ Some x → drop i xs ≡ x ∷ drop (i + 1) xs

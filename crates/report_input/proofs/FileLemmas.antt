@@ -1,5 +1,6 @@
 -- The lines of a file that is read by pieces.
 use Rattle.std.proofs.Common.{◌≡◌, ℕ, ◌<◌, ◌⊎◌, inl, inr, List, [], ◌++◌, length, drop, refl, sym, ap, ◌∙◌, subst, append-nil, unwrap_or, IsSome, Some, None, IfSome, IfOk, IfErr, Result, Ok, Err}
+use Rattle.std.proofs.lemmas.Option.{same_Some}
 use Rattle.std.specs.declared.option.Option.{Option}
 use Rattle.std.specs.Option.{option_map}
 use Rattle.std.specs.FinMap.{get}
@@ -22,11 +23,8 @@ pub none_came : (ignored : Ignored) (first : Option Store) (reader : Reader) →
 none_came ignored None reader is = ([], is, refl)
 none_came ignored (Some store) reader is = ([], is, refl)
 
-same_some : (a b : List ℕ) → Some a ≡ Some b → a ≡ b
-same_some a b e = cc e
-
 left_is : (first now : Store) (bytes : List ℕ) → left_told (Some first) ≡ prepend_known bytes (left_told (Some now)) → left first ≡ bytes ++ left now
-left_is first now bytes e = same_some (left first) (bytes ++ left now) e
+left_is first now bytes e = same_Some (left first) (bytes ++ left now) e
 
 -- nothing is left: all that was left at first came
 pub all_came : (ignored : Ignored) (first now : Option Store) (reader : Reader) (cells : List ℕ) (n : ℕ) (counts : Counts) → HasCome ignored first now reader

@@ -1,6 +1,8 @@
 -- The rows of an entity, by kind and key.
 use Rattle.std.specs.Prelude.{◌≡◌, Bool, true, false, ◌&&◌, ◌||◌, ◌++◌, Option, Some, None, option_map, option_and_then, refl}
 use Rattle.std.proofs.Common.{ap, ◌∙◌}
+use Rattle.std.proofs.lemmas.List.Folds.{list_any-append}
+use Rattle.std.proofs.Math.Bool.{or-false}
 use Rattle.feed_values.specs.Schema.{Value}
 use Rattle.feed_values.specs.Messages.{entity, trip_update, vehicle_position}
 use Rattle.rule_table.specs.declared.key.EntityKey.{EntityKey}
@@ -12,9 +14,10 @@ use Rattle.rule_table.specs.Judged.{update_of}
 use Rattle.rule_table.specs.Ids.{update_ids, vehicle_ids, same_ids}
 use Rattle.rule_table.specs.Pairs.{PairRow, GivenIds, of_update, of_vehicle, update_rows, vehicle_rows, vehicle_of, row_with, same_id, same_row, has_row}
 use Rattle.rule_table.proofs.SameKeys.{key_self}
+use Rattle.rule_table.specs.CitedLaws.{both_same}
+use Rattle.rule_table.proofs.SameTests.{key-symm}
+use Rattle.rule_table.proofs.SameAsks.{kind_same}
 use Rattle.row_changes.specs.Given.{rows_under, id_rows}
-use Rattle.row_changes.proofs.Lists.{any-append, or-none, both}
-use Rattle.row_changes.proofs.Members.{key-symm, kind_self}
 
 -- those of its trip update and then those of its vehicle position
 updates-are : (key : EntityKey) (o : Option (Value trip_update)) → update_rows key o ≡ id_rows TripUpdate key (option_map of_update o)
@@ -27,11 +30,11 @@ vehicles-are key (Some v) = refl
 
 pub rows-split : (key : EntityKey) (o : Option (Value entity)) → rows_under key o ≡ id_rows TripUpdate key (option_and_then update_ids o) ++ id_rows Vehicle key (option_and_then vehicle_ids o)
 rows-split key None = refl
-rows-split key (Some e) = both (updates-are key (update_of e)) (vehicles-are key (vehicle_of e))
+rows-split key (Some e) = both_same (updates-are key (update_of e)) (vehicles-are key (vehicle_of e))
 
 pub has-split : (key : EntityKey) (o : Option (Value entity)) (r : PairRow) →
     has_row (rows_under key o) r ≡ (has_row (id_rows TripUpdate key (option_and_then update_ids o)) r || has_row (id_rows Vehicle key (option_and_then vehicle_ids o)) r)
-has-split key o r = ap (λ xs. has_row xs r) (rows-split key o) ∙ any-append (same_row r) (id_rows TripUpdate key (option_and_then update_ids o)) (id_rows Vehicle key (option_and_then vehicle_ids o))
+has-split key o r = ap (λ xs. has_row xs r) (rows-split key o) ∙ list_any-append (same_row r) (id_rows TripUpdate key (option_and_then update_ids o)) (id_rows Vehicle key (option_and_then vehicle_ids o))
 
 -- ---- none has another kind or key
 abbrev pub is_mine : Kind → EntityKey → PairRow → Bool
@@ -57,7 +60,7 @@ not-here key o r h =
 pub ids-there : (kind : Kind) (key : EntityKey) (ids : GivenIds) (other : Option GivenIds) → has_row (id_rows kind key other) (row_with kind key ids) ≡ same_ids ids other
 ids-there kind key ids None = refl
 ids-there kind key ids (Some other) =
-    or-none _ ∙ alike (same_kind kind kind) (same_key key key) (same_id ids.trip other.trip) (same_id ids.vehicle other.vehicle) (kind_self kind) (key_self key)
+    or-false _ ∙ alike (same_kind kind kind) (same_key key key) (same_id ids.trip other.trip) (same_id ids.vehicle other.vehicle) (kind_same kind) (key_self key)
   where
     alike : (a b c d : Bool) → a ≡ true → b ≡ true → (a && b && c && d) ≡ (c && d)
     alike true true c d h k = refl

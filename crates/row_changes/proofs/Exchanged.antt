@@ -1,7 +1,7 @@
 -- The row of a message in the place of another one.
-use Rattle.std.specs.Prelude.{◌≡◌, ℕ, Bool, true, false, not, ◌&&◌, ◌||◌, List, Option, Some, None, option_and_then, refl}
+use Rattle.std.specs.Prelude.{◌≡◌, Bool, true, false, not, ◌&&◌, ◌||◌, Option, Some, None, option_and_then, refl}
 use Rattle.std.proofs.Common.{sym, ap, ◌∙◌}
-use Rattle.std.proofs.lemmas.Slice.Eq.{bytes_eq-Decides}
+use Rattle.std.proofs.Math.Bool.{and-false, or-false}
 use Rattle.feed_values.specs.Schema.{Value}
 use Rattle.feed_values.specs.Messages.{entity}
 use Rattle.rule_table.specs.declared.key.EntityKey.{EntityKey}
@@ -11,18 +11,11 @@ use Rattle.rule_table.specs.Kinds.{same_kind}
 use Rattle.rule_table.specs.Order.{same_key}
 use Rattle.rule_table.specs.Ids.{update_ids, vehicle_ids}
 use Rattle.rule_table.specs.Pairs.{PairRow, GivenIds, same_id, same_row, has_row, row_with}
-use Rattle.pairing_rules.proofs.Members.{row_is}
+use Rattle.rule_table.proofs.SameTests.{row_is, id_is}
 use Rattle.row_changes.specs.Given.{rows_under, id_rows}
 use Rattle.row_changes.specs.Ids.{are_same}
 use Rattle.row_changes.specs.Updated.{exchanged}
-use Rattle.row_changes.proofs.Lists.{or-none, and-none}
 use Rattle.row_changes.proofs.EntityRows.{has-split, ids-there, is_mine, not-mine}
-
-id_is : (a b : Option (List ℕ)) → same_id a b ≡ true → a ≡ b
-id_is None None h = refl
-id_is None (Some b) h = cc
-id_is (Some a) None h = cc
-id_is (Some a) (Some b) h = ap Some ((bytes_eq-Decides a b).0 h)
 
 ids_are : (a b : GivenIds) → (same_id a.trip b.trip && same_id a.vehicle b.vehicle) ≡ true → a ≡ b
 ids_are a b h = make (id_is a.trip b.trip (first (same_id a.trip b.trip) (same_id a.vehicle b.vehicle) h)) (id_is a.vehicle b.vehicle (second (same_id a.trip b.trip) (same_id a.vehicle b.vehicle) h))
@@ -86,7 +79,7 @@ module _ (kind : Kind) (key : EntityKey) (r : PairRow) where
   -- no row is of messages with other ids
   not-both : (p q : Option GivenIds) → are_same p q ≡ false → has_row (id_rows kind key p) r ≡ true → has_row (id_rows kind key q) r ≡ false
   not-both None q f h = cc
-  not-both (Some p) q f h = ap (has_row (id_rows kind key q)) (row_is r (row_with kind key p) (sym (or-none (same_row r (row_with kind key p))) ∙ h)) ∙ ids-there kind key p q ∙ f
+  not-both (Some p) q f h = ap (has_row (id_rows kind key q)) (row_is r (row_with kind key p) (sym (or-false (same_row r (row_with kind key p))) ∙ h)) ∙ ids-there kind key p q ∙ f
 
   module _ (o n : Option GivenIds) where
     abbrev was : Bool
@@ -110,19 +103,19 @@ module _ (kind : Kind) (key : EntityKey) (r : PairRow) where
 
         each : (a b : Bool) → was ≡ a → now ≡ b → (b || not a && had) ≡ exchanged a b had
         each true true e f = let z : now ≡ false = not-both o n other e in cc
-        each true false e f = sym (and-none had)
+        each true false e f = sym (and-false had)
         each false b e f = kept b had
 
 -- ---- both rows of an entity
 module _ (key : EntityKey) (o : Option (Value entity)) (r : PairRow) where
   other-kind : (kind : Kind) → same_kind r.kind kind ≡ false → is_mine kind key r ≡ false
-  other-kind kind h = ap (λ b. same_key key r.key && b) h ∙ and-none (same_key key r.key)
+  other-kind kind h = ap (λ b. same_key key r.key && b) h ∙ and-false (same_key key r.key)
 
   -- a row of a kind is there where it is among those of the kind
   pub update-alone : r.kind ≡ TripUpdate → has_row (rows_under key o) r ≡ has_row (id_rows TripUpdate key (option_and_then update_ids o)) r
   update-alone k =
       has-split key o r ∙ ap (λ b. has_row (id_rows TripUpdate key (option_and_then update_ids o)) r || b) (not-mine Vehicle key (option_and_then vehicle_ids o) r (other-kind Vehicle (ap (λ x. same_kind x Vehicle) k)))
-      ∙ or-none (has_row (id_rows TripUpdate key (option_and_then update_ids o)) r)
+      ∙ or-false (has_row (id_rows TripUpdate key (option_and_then update_ids o)) r)
 
   pub vehicle-alone : r.kind ≡ Vehicle → has_row (rows_under key o) r ≡ has_row (id_rows Vehicle key (option_and_then vehicle_ids o)) r
   vehicle-alone k =

@@ -1,33 +1,10 @@
 -- Tests over lists.
-use Rattle.std.specs.Prelude.{◌≡◌, Bool, true, false, cond, ◌&&◌, ◌||◌, List, [], ◌∷◌, ◌++◌, filter, refl}
+use Rattle.std.specs.Prelude.{◌≡◌, Bool, true, false, cond, ◌&&◌, ◌||◌, List, [], ◌∷◌, filter, refl}
 use Rattle.std.specs.List.{list_any, flat_map}
 use Rattle.std.proofs.Common.{sym, ap, ◌∙◌}
+use Rattle.std.proofs.Math.Bool.{and-true, and-false, or_assoc}
+use Rattle.std.proofs.lemmas.List.Folds.{list_any-append}
 use Rattle.rule_table.specs.Groups.{Each}
-
-pub or-apart : (a b c : Bool) → (a || (b || c)) ≡ ((a || b) || c)
-or-apart true b c = refl
-or-apart false b c = refl
-
-pub or-none : (a : Bool) → (a || false) ≡ a
-or-none true = refl
-or-none false = refl
-
-pub and-none : (a : Bool) → (a && false) ≡ false
-and-none true = refl
-and-none false = refl
-
-pub both : {A : Type 0} {a b c d : List A} → a ≡ b → c ≡ d → (a ++ c) ≡ (b ++ d)
-both h k = cc
-
--- two tests, each of which is true where the other is
-pub same-truth : (a b : Bool) → (a ≡ true → b ≡ true) → (b ≡ true → a ≡ true) → a ≡ b
-same-truth true b f g = sym (f refl)
-same-truth false true f g = g refl
-same-truth false false f g = refl
-
-pub any-append : {A : Type 0} (p : A → Bool) (xs ys : List A) → list_any p (xs ++ ys) ≡ (list_any p xs || list_any p ys)
-any-append p [] ys = refl
-any-append p (x ∷ xs) ys = ap (λ b. p x || b) (any-append p xs ys) ∙ or-apart (p x) (list_any p xs) (list_any p ys)
 
 pub any_none : {A : Type 0} (p : A → Bool) (xs : List A) → Each (λ x. p x ≡ false) xs → list_any p xs ≡ false
 any_none p [] h = refl
@@ -37,13 +14,9 @@ pub any_false : {A : Type 0} (xs : List A) → list_any (λ x. false) xs ≡ fal
 any_false [] = refl
 any_false (x ∷ xs) = any_false xs
 
-pub any-same : {A : Type 0} (p q : A → Bool) → ((x : A) → p x ≡ q x) → (xs : List A) → list_any p xs ≡ list_any q xs
-any-same p q h [] = refl
-any-same p q h (x ∷ xs) = ap (λ b. b || list_any p xs) (h x) ∙ ap (λ b. q x || b) (any-same p q h xs)
-
 pub any-flat : {A B : Type 0} (p : B → Bool) (f : A → List B) (xs : List A) → list_any p (flat_map f xs) ≡ list_any (λ x. list_any p (f x)) xs
 any-flat p f [] = refl
-any-flat p f (x ∷ xs) = any-append p (f x) (flat_map f xs) ∙ ap (λ b. list_any p (f x) || b) (any-flat p f xs)
+any-flat p f (x ∷ xs) = list_any-append p (f x) (flat_map f xs) ∙ ap (λ b. list_any p (f x) || b) (any-flat p f xs)
 
 -- of what passes a filter
 pub any-filtered : {A : Type 0} (p t : A → Bool) (xs : List A) → list_any (λ x. p x && t x) xs ≡ list_any p (filter t xs)
@@ -51,12 +24,8 @@ any-filtered {A = A} p t [] = refl
 any-filtered {A = A} p t (x ∷ xs) = each (t x) (any-filtered p t xs)
   where
     each : (b : Bool) → list_any (λ x. p x && t x) xs ≡ list_any p (filter t xs) → (p x && b || list_any (λ x. p x && t x) xs) ≡ list_any p (cond b (x ∷ filter t xs) (filter t xs))
-    each true ih = ap (λ b. b || list_any (λ x. p x && t x) xs) (whole (p x)) ∙ ap (λ b. p x || b) ih
-      where
-        whole : (b : Bool) → (b && true) ≡ b
-        whole true = refl
-        whole false = refl
-    each false ih = ap (λ b. b || list_any (λ x. p x && t x) xs) (and-none (p x)) ∙ ih
+    each true ih = ap (λ b. b || list_any (λ x. p x && t x) xs) (and-true (p x)) ∙ ap (λ b. p x || b) ih
+    each false ih = ap (λ b. b || list_any (λ x. p x && t x) xs) (and-false (p x)) ∙ ih
 
 -- one that is fixed beside another
 pub any-and : {A : Type 0} (p : A → Bool) (b : Bool) (xs : List A) → list_any (λ x. p x && b) xs ≡ (list_any p xs && b)
@@ -88,4 +57,4 @@ any-turned {B = B} p (x ∷ xs) ys = ap (λ b. list_any (p x) ys || b) (any-turn
 -- ---- items gone through
 -- one item done, one less to go
 pub one-less : {A : Type 0} (p : A → Bool) (new old all : Bool) (x : A) (xs rest : List A) → new ≡ (old || p x) → xs ≡ x ∷ rest → (old || list_any p xs) ≡ all → (new || list_any p rest) ≡ all
-one-less p new old all x xs rest n s h = ap (λ b. b || list_any p rest) n ∙ sym (or-apart old (p x) (list_any p rest)) ∙ ap (λ ys. old || list_any p ys) (sym s) ∙ h
+one-less p new old all x xs rest n s h = ap (λ b. b || list_any p rest) n ∙ or_assoc old (p x) (list_any p rest) ∙ ap (λ ys. old || list_any p ys) (sym s) ∙ h

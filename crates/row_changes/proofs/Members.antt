@@ -1,37 +1,15 @@
 -- Lists with the same rows, and rows that came or went.
-use Rattle.std.specs.Prelude.{◌≡◌, ℕ, Bool, true, false, not, ◌&&◌, ◌||◌, List, [], ◌∷◌, Option, Some, None, refl}
+use Rattle.std.specs.Prelude.{◌≡◌, Bool, true, false, not, ◌&&◌, ◌||◌, List, [], ◌∷◌, refl}
 use Rattle.std.specs.List.{list_any}
 use Rattle.std.proofs.Common.{sym, ap, ◌∙◌}
-use Rattle.std.proofs.lemmas.Slice.Eq.{bytes_eq-Decides}
-use Rattle.rule_table.specs.declared.key.EntityKey.{EntityKey}
-use Rattle.rule_table.specs.declared.kind.Kind.{Kind}
-use Rattle.rule_table.specs.declared.kind.Kind.TheVariants.{TripUpdate, Vehicle}
+use Rattle.std.proofs.lemmas.List.Folds.{list_any-append}
+use Rattle.std.proofs.lemmas.Bool.{or_right, or_left}
 use Rattle.rule_table.specs.Groups.{Each}
-use Rattle.rule_table.specs.GroupLaws.{each_weaken, or_left, or_right}
-use Rattle.rule_table.specs.Kinds.{same_kind}
-use Rattle.rule_table.specs.Order.{same_key}
-use Rattle.rule_table.specs.Pairs.{PairRow, same_id, same_row, has_row}
-use Rattle.rule_table.proofs.SameKeys.{key_is, key_self}
+use Rattle.rule_table.specs.GroupLaws.{each_weaken}
+use Rattle.rule_table.specs.Pairs.{PairRow, same_row, has_row}
 use Rattle.rule_history.specs.Changed.{rows_without, changed_rows, differ}
-use Rattle.pairing_rules.proofs.Members.{row_is, has-filter}
-use Rattle.row_changes.proofs.Lists.{any-append, same-truth}
-
-pub kind_self : (k : Kind) → same_kind k k ≡ true
-kind_self TripUpdate = refl
-kind_self Vehicle = refl
-
-id_self : (o : Option (List ℕ)) → same_id o o ≡ true
-id_self None = refl
-id_self (Some id) = (bytes_eq-Decides id id).1 refl
-
-pub row_self : (r : PairRow) → same_row r r ≡ true
-row_self r = all (same_kind r.kind r.kind) (same_key r.key r.key) (same_id r.trip r.trip) (same_id r.vehicle r.vehicle) (kind_self r.kind) (key_self r.key) (id_self r.trip) (id_self r.vehicle)
-  where
-    all : (a b c d : Bool) → a ≡ true → b ≡ true → c ≡ true → d ≡ true → (a && b && c && d) ≡ true
-    all a b c d h i j k = cc
-
-pub key-symm : (a b : EntityKey) → same_key a b ≡ same_key b a
-key-symm a b = same-truth (same_key a b) (same_key b a) (λ h. ap (same_key b) (key_is a b h) ∙ key_self b) (λ h. ap (same_key a) (key_is b a h) ∙ key_self a)
+use Rattle.rule_table.proofs.SameTests.{row_is, same-truth, row_self}
+use Rattle.pairing_rules.proofs.Members.{has-filter}
 
 pub row-symm : (a b : PairRow) → same_row a b ≡ same_row b a
 row-symm a b = same-truth (same_row a b) (same_row b a) (λ h. ap (same_row b) (row_is a b h) ∙ row_self b) (λ h. ap (same_row a) (row_is b a h) ∙ row_self a)
@@ -66,7 +44,7 @@ any-members p u v h =
 -- ---- rows that came or went are those of one of two lists
 pub has-changed : (u v : List PairRow) (r : PairRow) → has_row (changed_rows u v) r ≡ differ (has_row u r) (has_row v r)
 has-changed u v r =
-    any-append (same_row r) (rows_without v u) (rows_without u v)
+    list_any-append (same_row r) (rows_without v u) (rows_without u v)
     ∙ ap (λ b. b || has_row (rows_without u v) r) (has-filter (λ x. not (has_row u x)) v r) ∙ ap (λ b. has_row v r && not (has_row u r) || b) (has-filter (λ x. not (has_row v x)) u r)
     ∙ either (has_row u r) (has_row v r)
   where

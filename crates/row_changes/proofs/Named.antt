@@ -8,9 +8,10 @@ use Rattle.rule_table.specs.declared.kind.Kind.TheVariants.{TripUpdate, Vehicle}
 use Rattle.rule_table.specs.Kinds.{same_kind}
 use Rattle.rule_table.specs.Order.{same_key}
 use Rattle.rule_table.specs.Pairs.{PairRow, is_of}
+use Rattle.rule_table.proofs.SameTests.{any-same}
 use Rattle.rule_history.specs.Changed.{other}
 use Rattle.pairing_rules.proofs.Lists.{any-or}
-use Rattle.row_changes.proofs.Lists.{any-same, any_false}
+use Rattle.row_changes.proofs.Lists.{any_false}
 
 -- where a flag is set beside a test
 flagged : (p : PairRow → Bool) (b : Bool) (rows : List PairRow) → (b && list_any p rows) ≡ list_any (λ r. b && p r) rows

@@ -3,6 +3,8 @@ use Rattle.std.specs.Prelude.{◌≡◌, ℕ, Bool, true, false, not, cond, ◌&
 use Rattle.std.specs.List.{list_any}
 use Rattle.std.proofs.Common.{sym, ap, ◌∙◌}
 use Rattle.std.proofs.lemmas.List.Elements.{filter-append}
+use Rattle.std.proofs.lemmas.List.Folds.{list_any-append}
+use Rattle.std.proofs.Math.Bool.{or-false, or_assoc}
 use Rattle.feed_values.specs.Schema.{Value}
 use Rattle.feed_values.specs.Messages.{entity}
 use Rattle.rule_table.specs.declared.key.EntityKey.{EntityKey}
@@ -14,7 +16,6 @@ use Rattle.row_changes.specs.declared.ids.ChangedIds.{ChangedIds}
 use Rattle.row_changes.specs.Given.{rows_under, id_rows}
 use Rattle.row_changes.specs.Ids.{has_text, new_trip, new_vehicle, given_trip, given_vehicle}
 use Rattle.row_changes.specs.Updated.{AreNoted}
-use Rattle.row_changes.proofs.Lists.{any-append, or-none, or-apart}
 use Rattle.row_changes.proofs.EntityRows.{rows-split, ids-there}
 use Rattle.row_changes.proofs.Exchanged.{update-alone, vehicle-alone}
 
@@ -33,7 +34,7 @@ module _ (q : List ℕ) (key : EntityKey) (o : Option (Value entity)) where
     where
       either : (x : Bool) → list_any (λ c. is_id q (of c)) (cond (not x) (r ∷ []) []) ≡ (not x && is_id q (of r))
       either true = refl
-      either false = or-none (is_id q (of r))
+      either false = or-false (is_id q (of r))
 
   update-trip : (ids : Option GivenIds) → list_any (λ c. is_id q c.trip) (filter is_gone (id_rows TripUpdate key ids)) ≡ new_trip q ids (option_and_then update_ids o)
   update-trip None = refl
@@ -58,7 +59,7 @@ module _ (q : List ℕ) (key : EntityKey) (o : Option (Value entity)) where
       let us = id_rows TripUpdate key (option_and_then update_ids e) in
       let vs = id_rows Vehicle key (option_and_then vehicle_ids e) in
       ap (λ xs. list_any (λ c. is_id q (of c)) (filter is_gone xs)) (rows-split key e) ∙ ap (list_any (λ c. is_id q (of c))) (filter-append is_gone us vs)
-      ∙ any-append (λ c. is_id q (of c)) (filter is_gone us) (filter is_gone vs) ∙ ap (λ b. b || list_any (λ c. is_id q (of c)) (filter is_gone vs)) h ∙ ap (λ b. x || b) k
+      ∙ list_any-append (λ c. is_id q (of c)) (filter is_gone us) (filter is_gone vs) ∙ ap (λ b. b || list_any (λ c. is_id q (of c)) (filter is_gone vs)) h ∙ ap (λ b. x || b) k
 
   pub gone-trip : (e : Option (Value entity)) → list_any (λ c. is_id q c.trip) (rows_without (rows_under key e) (rows_under key o)) ≡ given_trip q e o
   gone-trip e = gone-by (λ c. c.trip) e _ _ (update-trip (option_and_then update_ids e)) (vehicle-trip (option_and_then vehicle_ids e))
@@ -71,8 +72,8 @@ module _ (key : EntityKey) (o n : Option (Value entity)) where
   changed-by : (p : PairRow → Bool) (had mid has x y : Bool) → mid ≡ (had || x) → has ≡ (mid || y) → list_any p (rows_without (rows_under key n) (rows_under key o)) ≡ x → list_any p (rows_without (rows_under key o) (rows_under key n)) ≡ y →
       has ≡ (had || list_any p (changed_rows (rows_under key o) (rows_under key n)))
   changed-by p had mid has x y m h a b =
-      h ∙ ap (λ z. z || y) m ∙ sym (or-apart had x y)
-      ∙ ap (λ z. had || z) (sym (any-append p (rows_without (rows_under key n) (rows_under key o)) (rows_without (rows_under key o) (rows_under key n)) ∙ ap (λ z. z || list_any p (rows_without (rows_under key o) (rows_under key n))) a ∙ ap (λ z. x || z) b))
+      h ∙ ap (λ z. z || y) m ∙ or_assoc had x y
+      ∙ ap (λ z. had || z) (sym (list_any-append p (rows_without (rows_under key n) (rows_under key o)) (rows_without (rows_under key o) (rows_under key n)) ∙ ap (λ z. z || list_any p (rows_without (rows_under key o) (rows_under key n))) a ∙ ap (λ z. x || z) b))
 
   pub noted : (had mid has : ChangedIds) → ((q : List ℕ) → has_text mid.trips q ≡ (has_text had.trips q || given_trip q n o)) → ((q : List ℕ) → has_text mid.vehicles q ≡ (has_text had.vehicles q || given_vehicle q n o)) →
       ((q : List ℕ) → has_text has.trips q ≡ (has_text mid.trips q || given_trip q o n)) → ((q : List ℕ) → has_text has.vehicles q ≡ (has_text mid.vehicles q || given_vehicle q o n)) → AreNoted key o n had has
@@ -87,4 +88,4 @@ pub put-both : (f : Option GivenIds → Option GivenIds → Bool) (old one two :
     two ≡ (old || (f aa bb || f ca da))
 put-both f old one two a aa b bb c ca d da h k p q r s =
     k ∙ ap (λ x. x || f c d) h ∙ ap (λ x. (old || f x b) || f c d) p ∙ ap (λ x. (old || f aa x) || f c d) q ∙ ap (λ x. (old || f aa bb) || f x d) r ∙ ap (λ x. (old || f aa bb) || f ca x) s
-    ∙ sym (or-apart old (f aa bb) (f ca da))
+    ∙ or_assoc old (f aa bb) (f ca da)

@@ -1,10 +1,10 @@
 -- Timestamps above a bound.
-use Rattle.std.specs.Prelude.{◌≡◌, ◌↔◌, ◌⊎◌, ℕ, ◌==◌, nat_lt, ℤ, pos, negsuc, Bool, true, false, ◌&&◌, ◌||◌, T, List, [], ◌∷◌, Option, Some, None, refl}
+use Rattle.std.specs.Prelude.{◌≡◌, ◌↔◌, ℕ, ◌==◌, nat_lt, ℤ, pos, negsuc, Bool, true, false, ◌&&◌, ◌||◌, T, List, [], ◌∷◌, Option, Some, None, refl}
 use Rattle.std.specs.List.{list_any}
 use Rattle.std.proofs.Common.{inl, inr, sym, ap, ◌∙◌, subst, eq-eqb}
 use borrow.Author.Tests.{eqb-true}
-use Rattle.engine_laws.proofs.Spots.{is_false, or_false}
-use Rattle.std.proofs.lemmas.Bool.{and_parts, and_from}
+use Rattle.engine_laws.proofs.Spots.{is_false}
+use Rattle.std.proofs.lemmas.Bool.{and_parts, and_from, or_parts, or_cases, or_right, or_left}
 use Rattle.feed_values.specs.declared.slot.Slot.{Slot}
 use Rattle.feed_values.specs.declared.slot.Slot.TheVariants.{S29, S59}
 use Rattle.feed_values.specs.Schema.{Value}
@@ -12,13 +12,12 @@ use Rattle.feed_values.specs.Messages.{entity}
 use Rattle.feed_values.specs.Cells.{entity_cell, number_cell}
 use Rattle.rule_table.specs.Order.{same_key}
 use Rattle.rule_table.specs.Bounds.{IsAbove, is_timestamp}
-use Rattle.rule_table.specs.GroupLaws.{or_left, or_right}
 use Rattle.rule_table.proofs.SameKeys.{key_is, key_self}
+use Rattle.rule_table.proofs.SameTests.{same-truth}
 use Rattle.history_rules.specs.Stamps.{Stamp, stamp_of, same_stamp, holds, is_above}
 use Rattle.row_changes.specs.Given.{update_time, vehicle_time, is_time, gives_time}
 use Rattle.row_changes.specs.Touched.{is_over, is_later, gives_later}
 use Rattle.row_changes.specs.Held.{OverKeysAre, NoneIsLater}
-use Rattle.row_changes.proofs.Lists.{same-truth}
 
 -- ---- stamps
 stamp_is : (a b : Stamp) → same_stamp a b ≡ true → a ≡ b
@@ -58,9 +57,6 @@ some p (x ∷ xs) h =
     ] refl h
 
 -- ---- timestamps
-either : (a b : Bool) → (a || b) ≡ true → (a ≡ true) ⊎ (b ≡ true)
-either true b h = inl refl
-either false b h = inr h
 
 later-time : (bound n : ℕ) (t : Option ℤ) → is_time n t ≡ true → nat_lt bound n ≡ true → is_later bound t ≡ true
 later-time bound n None h l = cc
@@ -70,7 +66,7 @@ later-time bound n (Some (negsuc m)) h l = cc
 gives-later : (bound n : ℕ) (o : Option (Value entity)) → gives_time o n ≡ true → nat_lt bound n ≡ true → gives_later bound o ≡ true
 gives-later bound n None h l = cc
 gives-later bound n (Some e) h l =
-    elim (either (is_time n (update_time e)) (is_time n (vehicle_time e)) h) [
+    elim (or_cases (is_time n (update_time e)) (is_time n (vehicle_time e)) h) [
       | inl u ↦ or_left (is_later bound (update_time e)) (is_later bound (vehicle_time e)) (later-time bound n (update_time e) u l)
       | inr v ↦ or_right (is_later bound (update_time e)) (is_later bound (vehicle_time e)) (later-time bound n (vehicle_time e) v l)
     ]
@@ -93,7 +89,7 @@ time-later bound (Some (negsuc n)) h = cc
 entity-later : (bound : ℕ) (o : Option (Value entity)) → gives_later bound o ≡ true → IsLaterTime bound o
 entity-later bound None h = cc
 entity-later bound (Some e) h =
-    elim (either (is_later bound (update_time e)) (is_later bound (vehicle_time e)) h) [
+    elim (or_cases (is_later bound (update_time e)) (is_later bound (vehicle_time e)) h) [
       | inl u ↦ let t = time-later bound (update_time e) u in record { time = t.time; given = or_left (is_time t.time (update_time e)) (is_time t.time (vehicle_time e)) t.given; later = t.later }
       | inr v ↦ let t = time-later bound (vehicle_time e) v in record { time = t.time; given = or_right (is_time t.time (update_time e)) (is_time t.time (vehicle_time e)) t.given; later = t.later }
     ]
@@ -153,13 +149,13 @@ module _ (bound : ℕ) (e : Value entity) where
   vehicle_late a = (above_cell bound (vehicle_time e)).1 (subst (λ c. IsAbove c (Some (pos bound))) (vehicle_cell e) a)
 
   no_slot : gives_later bound (Some e) ≡ false → (slot : Slot) → is_timestamp slot ≡ true → IsLate slot → ⊥
-  no_slot h S29 is a = let t = update_late a in let f = or_false (is_later bound (update_time e)) (is_later bound (vehicle_time e)) h in cc (t, f.0)
-  no_slot h S59 is a = let t = vehicle_late a in let f = or_false (is_later bound (update_time e)) (is_later bound (vehicle_time e)) h in cc (t, f.1)
+  no_slot h S29 is a = let t = update_late a in let f = or_parts (is_later bound (update_time e)) (is_later bound (vehicle_time e)) h in cc (t, f.0)
+  no_slot h S59 is a = let t = vehicle_late a in let f = or_parts (is_later bound (update_time e)) (is_later bound (vehicle_time e)) h in cc (t, f.1)
   no_slot h _ is a = cc
 
   no_time : ((slot : Slot) → is_timestamp slot ≡ true → IsLate slot → ⊥) → gives_later bound (Some e) ≡ true → ⊥
   no_time none h =
-      elim (either (is_later bound (update_time e)) (is_later bound (vehicle_time e)) h) [
+      elim (or_cases (is_later bound (update_time e)) (is_later bound (vehicle_time e)) h) [
         | inl u ↦ none S29 refl (subst (λ c. IsAbove c (Some (pos bound))) (sym (update_cell e)) ((above_cell bound (update_time e)).0 u))
         | inr v ↦ none S59 refl (subst (λ c. IsAbove c (Some (pos bound))) (sym (vehicle_cell e)) ((above_cell bound (vehicle_time e)).0 v))
       ]

@@ -2,11 +2,13 @@
 use Rattle.std.specs.Prelude.{◌≡◌, ℕ, Bool, true, false, ◌&&◌, ◌||◌, List, Option, Some, None, filter, refl}
 use Rattle.std.specs.List.{list_any}
 use Rattle.std.proofs.Common.{sym, ap, ◌∙◌}
+use Rattle.std.proofs.Math.Bool.{and-false, and-true}
 use Rattle.rule_table.specs.declared.kind.Kind.{Kind}
 use Rattle.rule_table.specs.declared.kind.Kind.TheVariants.{TripUpdate, Vehicle}
 use Rattle.rule_table.specs.Order.{same_key}
 use Rattle.rule_table.specs.Pairs.{PairRow, any_row, has_row, is_of, shares, shares_id}
 use Rattle.rule_table.proofs.SameKeys.{key_is}
+use Rattle.rule_table.proofs.SameTests.{any-same}
 use Rattle.rule_history.specs.Changed.{changed_rows, differ, other, turns}
 use Rattle.engine_laws.specs.HeldFeeds.{rows_held}
 use Rattle.pairing_rules.proofs.Lists.{any-or}
@@ -19,7 +21,7 @@ use Rattle.row_changes.specs.Touched.{had_kind, has_turned, is_concerned}
 use Rattle.row_changes.specs.Held.{entity_at, AreKindsOf, PairedKeysAre}
 use Rattle.row_changes.proofs.Alike.{those}
 use Rattle.row_changes.proofs.EntityRows.{not-here}
-use Rattle.row_changes.proofs.Lists.{any-filtered, any-same, any_false, and-none}
+use Rattle.row_changes.proofs.Lists.{any-filtered, any_false}
 use Rattle.row_changes.proofs.Members.{any-members}
 
 -- a row shares an id with one of some rows where it gives one of their ids
@@ -50,13 +52,9 @@ paired before after last_before last_after held ids kinds h are key =
     mine : (r : PairRow) → has_row (filter (λ x. same_key key x.key) held.pairs) r ≡ has_row (rows_under key (entity_at after key)) r
     mine r = has-filter (λ x. same_key key x.key) held.pairs r ∙ ap (λ b. b && same_key key r.key) (h.held_are.rows_are r) ∙ each (same_key key r.key) refl
       where
-        whole : (b : Bool) → (b && true) ≡ b
-        whole true = refl
-        whole false = refl
-
         each : (b : Bool) → same_key key r.key ≡ b → (has_row (rows_under r.key (entity_at after r.key)) r && b) ≡ has_row (rows_under key (entity_at after key)) r
-        each true e = whole (has_row (rows_under r.key (entity_at after r.key)) r) ∙ ap (λ k. has_row (rows_under k (entity_at after k)) r) (sym (key_is key r.key e))
-        each false e = and-none (has_row (rows_under r.key (entity_at after r.key)) r) ∙ sym (not-here key (entity_at after key) r e)
+        each true e = and-true (has_row (rows_under r.key (entity_at after r.key)) r) ∙ ap (λ k. has_row (rows_under k (entity_at after k)) r) (sym (key_is key r.key e))
+        each false e = and-false (has_row (rows_under r.key (entity_at after r.key)) r) ∙ sym (not-here key (entity_at after key) r e)
 
     turned : (k : Kind) → has_turned kinds held.pairs k ≡ turns (rows_held before) (rows_held after) k
     turned k =

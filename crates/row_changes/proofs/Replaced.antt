@@ -2,27 +2,26 @@
 use Rattle.std.specs.Prelude.{◌≡◌, ◌==◌, Bool, true, false, cond, ◌&&◌, ◌||◌, List, [], ◌∷◌, ◌++◌, Option, None, refl}
 use Rattle.std.specs.List.{list_any}
 use Rattle.std.proofs.Common.{sym, ap, ◌∙◌}
+use Rattle.std.proofs.lemmas.List.Folds.{list_any-append}
+use Rattle.std.proofs.Math.Bool.{or-false, and-false, or-true}
 use Rattle.feed_values.specs.Schema.{Value}
 use Rattle.feed_values.specs.Messages.{entity}
 use Rattle.rule_table.specs.declared.key.EntityKey.{EntityKey}
 use Rattle.rule_table.specs.Order.{same_key}
 use Rattle.rule_table.specs.Pairs.{PairRow, is_id, has_row, same_row}
 use Rattle.rule_table.proofs.SameKeys.{key_is}
+use Rattle.rule_table.proofs.SameTests.{any-same, key-symm}
 use Rattle.rule_history.specs.Changed.{changed_rows, differ}
 use Rattle.engine_laws.specs.HeldFeeds.{rows_held}
 use Rattle.history_rules.specs.Stamps.{holds}
 use Rattle.row_changes.specs.Given.{rows_under, is_given}
 use Rattle.row_changes.specs.Held.{Entities, entity_at, NothingIsHeld, is_done, replaced, changed_at, StartReplaces, UpdateReplaces, AllIsReplaced}
-use Rattle.row_changes.proofs.Lists.{any-append, any-flat, any-same, any-and, or-none}
-use Rattle.row_changes.proofs.Members.{any-members, has-changed, differ-same, key-symm}
+use Rattle.row_changes.proofs.Lists.{any-flat, any-and}
+use Rattle.row_changes.proofs.Members.{any-members, has-changed, differ-same}
 use Rattle.row_changes.specs.Updated.{exchanged}
 use Rattle.row_changes.proofs.EntityRows.{not-here}
 use Rattle.row_changes.proofs.Exchanged.{exchanged-same, exchanged-all}
 use Rattle.row_changes.proofs.Feeds.{rows-are}
-
-or-true : (a : Bool) → (a || true) ≡ true
-or-true true = refl
-or-true false = refl
 
 none-of : (k : EntityKey) (o : Option (Value entity)) → o ≡ None → (r : PairRow) → false ≡ has_row (rows_under k o) r
 none-of k o h r = ap (λ x. has_row (rows_under k x) r) (sym h)
@@ -30,12 +29,8 @@ none-of k o h r = ap (λ x. has_row (rows_under k x) r) (sym h)
 pub nothing_held : NothingIsHeld
 nothing_held at none held p s = record {
   rows_are = λ r. ap (λ u. has_row u r) p ∙ none-of r.key (at r.key) (none r.key) r;
-  stamps_are = λ x. ap (λ u. holds u x) s ∙ sym (ap (λ o. is_given o x) (none x.key) ∙ no (x.at.feed == x.key.feed));
+  stamps_are = λ x. ap (λ u. holds u x) s ∙ sym (ap (λ o. is_given o x) (none x.key) ∙ and-false (x.at.feed == x.key.feed));
 }
-  where
-    no : (b : Bool) → (b && false) ≡ false
-    no true = refl
-    no false = refl
 
 pub start : StartReplaces
 start old new held ids h t v = record {
@@ -45,7 +40,7 @@ start old new held ids h t v = record {
 
 -- ---- one more key
 done-now : (done : List EntityKey) (key k : EntityKey) → is_done (done ++ key ∷ []) k ≡ (is_done done k || same_key k key)
-done-now done key k = any-append (same_key k) done (key ∷ []) ∙ ap (λ b. is_done done k || b) (or-none (same_key k key))
+done-now done key k = list_any-append (same_key k) done (key ∷ []) ∙ ap (λ b. is_done done k || b) (or-false (same_key k key))
 
 module _ (old new : Entities) (done : List EntityKey) (key : EntityKey) where
   -- what a test says of the entity under a key, before and after
@@ -60,7 +55,7 @@ module _ (old new : Entities) (done : List EntityKey) (key : EntityKey) where
           let all : is_done (done ++ key ∷ []) k ≡ true = done-now done key k ∙ ap (λ b. is_done done k || b) (key-symm k key ∙ e) ∙ or-true (is_done done k) in
           ap (exchanged (test key (old key)) (test key (new key))) before ∙ exchanged-all (test key (old key)) (test key (new key)) ∙ ap (λ y. test y (new y)) same ∙ ap (λ b. test k (cond b (new k) (old k))) (sym all)
       each false e =
-          let still : is_done (done ++ key ∷ []) k ≡ is_done done k = done-now done key k ∙ ap (λ b. is_done done k || b) (key-symm k key ∙ e) ∙ or-none (is_done done k) in
+          let still : is_done (done ++ key ∷ []) k ≡ is_done done k = done-now done key k ∙ ap (λ b. is_done done k || b) (key-symm k key ∙ e) ∙ or-false (is_done done k) in
           exchanged-same false had ∙ h ∙ ap (λ b. test k (cond b (new k) (old k))) (sym still)
 
   abbrev changes : EntityKey → List PairRow
@@ -69,7 +64,7 @@ module _ (old new : Entities) (done : List EntityKey) (key : EntityKey) where
   one-more : (p : PairRow → Bool) (had has : Bool) → had ≡ list_any p (changed_at old new done) → has ≡ (had || list_any p (changes key)) → has ≡ list_any p (changed_at old new (done ++ key ∷ []))
   one-more p had has h u =
       u ∙ ap (λ b. b || list_any p (changes key)) (h ∙ any-flat p changes done)
-      ∙ sym (any-flat p changes (done ++ key ∷ []) ∙ any-append (λ k. list_any p (changes k)) done (key ∷ []) ∙ ap (λ b. list_any (λ k. list_any p (changes k)) done || b) (or-none (list_any p (changes key))))
+      ∙ sym (any-flat p changes (done ++ key ∷ []) ∙ list_any-append (λ k. list_any p (changes k)) done (key ∷ []) ∙ ap (λ b. list_any (λ k. list_any p (changes k)) done || b) (or-false (list_any p (changes key))))
 
 -- the rows of a key are under it alone
 only-here : (key : EntityKey) (o : Option (Value entity)) (r : PairRow) → has_row (rows_under key o) r ≡ (same_key key r.key && has_row (rows_under key o) r)

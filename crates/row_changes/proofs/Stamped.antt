@@ -3,6 +3,7 @@ use Rattle.std.specs.Prelude.{◌≡◌, ℕ, ◌==◌, Bool, true, false, not, 
 use Rattle.std.proofs.Common.{sym, ap, ◌∙◌, arith}
 use Rattle.std.proofs.lemmas.Bool.Decides.{nat_tests}
 use Rattle.std.proofs.lemmas.Bool.{eqb-true}
+use Rattle.std.proofs.Math.Bool.{and-false, and-true}
 use Rattle.feed_values.specs.Schema.{Value}
 use Rattle.feed_values.specs.Messages.{entity}
 use Rattle.rule_table.specs.declared.key.EntityKey.{EntityKey}
@@ -13,9 +14,8 @@ use Rattle.row_changes.specs.declared.stamps.Times.{Times}
 use Rattle.row_changes.specs.Given.{gives_time, is_time, is_given_under}
 use Rattle.row_changes.specs.Times.{is_at, are_given, is_stamp}
 use Rattle.row_changes.specs.Updated.{exchanged}
-use Rattle.row_changes.proofs.Lists.{and-none}
 
-eq-turned : (a b : ℕ) → (a == b) ≡ (b == a)
+pub eq-turned : (a b : ℕ) → (a == b) ≡ (b == a)
 eq-turned a b = grind (arith, nat_tests)
 
 -- a timestamp of 64 bits, as a value and as it is held
@@ -29,7 +29,7 @@ module _ (key : EntityKey) (s : Stamp) where
 
   -- a stamp of a key is of its feed and has the timestamp
   stamp-parts : (t : Option ℕ) → is_stamp key t s ≡ (is_here && is_at s.at.stamp t)
-  stamp-parts None = sym (and-none is_here)
+  stamp-parts None = sym (and-false is_here)
   stamp-parts (Some n) = each (same_key key s.key) refl
     where
       swap : (a b : Bool) → (a && b && true) ≡ (a && b)
@@ -39,7 +39,7 @@ module _ (key : EntityKey) (s : Stamp) where
 
       each : (b : Bool) → same_key key s.key ≡ b → (key.feed == s.at.feed && n == s.at.stamp && b) ≡ ((b && s.at.feed == s.key.feed) && n == s.at.stamp)
       each true e = swap (key.feed == s.at.feed) (n == s.at.stamp) ∙ ap (λ x. x && n == s.at.stamp) (eq-turned key.feed s.at.feed ∙ ap (λ k. s.at.feed == k.feed) (key_is key s.key e))
-      each false e = and-none (key.feed == s.at.feed && n == s.at.stamp)
+      each false e = and-false (key.feed == s.at.feed && n == s.at.stamp)
 
   -- a timestamp that stays isn't taken out, and one that was there isn't put in
   pub kept-stays : (t : ℕ) (kept : Times) → are_given kept t ≡ true → (is_stamp key (Some t) s && not (are_given kept s.at.stamp)) ≡ false
@@ -50,22 +50,18 @@ module _ (key : EntityKey) (s : Stamp) where
       none false b c = refl
 
       each : (b : Bool) → (t == s.at.stamp) ≡ b → ((key.feed == s.at.feed && b && same_key key s.key) && not (are_given kept s.at.stamp)) ≡ false
-      each true e = ap (λ n. (key.feed == s.at.feed && true && same_key key s.key) && not (are_given kept n)) (sym (eqb-true t s.at.stamp e)) ∙ ap (λ b. (key.feed == s.at.feed && true && same_key key s.key) && not b) h ∙ and-none _
+      each true e = ap (λ n. (key.feed == s.at.feed && true && same_key key s.key) && not (are_given kept n)) (sym (eqb-true t s.at.stamp e)) ∙ ap (λ b. (key.feed == s.at.feed && true && same_key key s.key) && not b) h ∙ and-false _
       each false e = none (key.feed == s.at.feed) (same_key key s.key) (not (are_given kept s.at.stamp))
 
   pub other-moves : (t : ℕ) (kept : Times) → are_given kept t ≡ false → (is_stamp key (Some t) s && not (are_given kept s.at.stamp)) ≡ same_stamp (stamp_of key.feed t key) s
   other-moves t kept h = each (t == s.at.stamp) refl
     where
-      whole : (a : Bool) → (a && true) ≡ a
-      whole true = refl
-      whole false = refl
-
       none : (a b c : Bool) → ((a && false && b) && c) ≡ (a && false && b)
       none true b c = refl
       none false b c = refl
 
       each : (b : Bool) → (t == s.at.stamp) ≡ b → ((key.feed == s.at.feed && b && same_key key s.key) && not (are_given kept s.at.stamp)) ≡ (key.feed == s.at.feed && b && same_key key s.key)
-      each true e = ap (λ n. (key.feed == s.at.feed && true && same_key key s.key) && not (are_given kept n)) (sym (eqb-true t s.at.stamp e)) ∙ ap (λ b. (key.feed == s.at.feed && true && same_key key s.key) && not b) h ∙ whole _
+      each true e = ap (λ n. (key.feed == s.at.feed && true && same_key key s.key) && not (are_given kept n)) (sym (eqb-true t s.at.stamp e)) ∙ ap (λ b. (key.feed == s.at.feed && true && same_key key s.key) && not b) h ∙ and-true _
       each false e = none (key.feed == s.at.feed) (same_key key s.key) (not (are_given kept s.at.stamp))
 
   -- ---- two taken out and two put in

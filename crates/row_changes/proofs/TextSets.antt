@@ -10,8 +10,9 @@ use Rattle.std.proofs.lemmas.Map.Text.{is_eq-slice_cmp}
 use Rattle.rule_table.specs.declared.key.EntityKey.{EntityKey}
 use Rattle.rule_table.specs.Order.{same_key}
 use Rattle.rule_table.specs.Pairs.{PairRow, is_id}
+use Rattle.rule_table.proofs.SameTests.{any-same}
 use Rattle.row_changes.specs.Ids.{has_given}
-use Rattle.row_changes.proofs.Lists.{any-same, any-and, any-turned, any_false}
+use Rattle.row_changes.proofs.Lists.{any-and, any-turned, any_false}
 
 pub text-put : (k q : List ℕ) (old : Bool) → cond (is_at (slice_cmp nat_cmp k) q) true old ≡ (old || bytes_eq k q)
 text-put k q old = ap (λ b. cond b true old) (is_eq-slice_cmp k q) ∙ either (bytes_eq k q) old

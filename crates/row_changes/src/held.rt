@@ -48,7 +48,7 @@ impl HeldRows {
         ids.note(alloc, old, new)?;
         let HeldRows { pairs, stamps } = self;
         let pairs = update_rows(alloc, pairs, key, old, new)?;
-        let stamps = update_stamps(alloc, stamps, key, old, new)?;
+        let stamps = update_stamps(stamps, key, old, new)?;
         Ok(HeldRows { pairs, stamps })
     }
 }

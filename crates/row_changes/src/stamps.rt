@@ -75,7 +75,6 @@ fn take_time(stamps: &mut StampIndex, key: &EntityKey, time: Option<u64>, kept: 
 
 /// Puts in a timestamp, unless it was there.
 fn add_time(
-    alloc: Global,
     stamps: StampIndex,
     key: &EntityKey,
     time: Option<u64>,
@@ -89,7 +88,7 @@ fn add_time(
             if had.has(time) {
                 return Ok(stamps);
             }
-            let next = stamps.add(key.feed, time, key.clone(alloc)?)?;
+            let next = stamps.add(key.feed, time, key.clone()?)?;
             Ok(next)
         }
     }
@@ -97,7 +96,6 @@ fn add_time(
 
 /// The timestamps of an entity take the place of those that it had.
 pub(crate) fn update_stamps(
-    alloc: Global,
     stamps: StampIndex,
     key: &EntityKey,
     old: Option<&Entity>,
@@ -111,7 +109,7 @@ pub(crate) fn update_stamps(
     let mut stamps = stamps;
     take_time(&mut stamps, key, was.update, is);
     take_time(&mut stamps, key, was.vehicle, is);
-    let some = add_time(alloc, stamps, key, is.update, was)?;
-    let next = add_time(alloc, some, key, is.vehicle, was)?;
+    let some = add_time(stamps, key, is.update, was)?;
+    let next = add_time(some, key, is.vehicle, was)?;
     Ok(next)
 }

@@ -16,7 +16,7 @@ use crate::kinds::Kinds;
 use feed_values::{Items, Text};
 use history_rules::StampIndex;
 use pairing_rules::{PairIndex, PairRow};
-use rule_table::{EntityKey, Kind, keys_in_order};
+use rule_table::{EntityId, EntityKey, Kind, keys_in_order};
 use std::alloc::{AllocError, Global};
 use std::collections::BTreeSet;
 
@@ -38,7 +38,7 @@ fn trip_alone(alloc: Global, trip: &Text) -> Result<PairRow, AllocError>
     Ok(PairRow {
         kind: Kind::TripUpdate,
         feed: 0,
-        id: Text::new(alloc),
+        id: EntityId::of(alloc, "")?,
         occurrence: 0,
         trip: Some(trip),
         vehicle: None,
@@ -53,7 +53,7 @@ fn vehicle_alone(alloc: Global, vehicle: &Text) -> Result<PairRow, AllocError>
     Ok(PairRow {
         kind: Kind::Vehicle,
         feed: 0,
-        id: Text::new(alloc),
+        id: EntityId::of(alloc, "")?,
         occurrence: 0,
         trip: None,
         vehicle: Some(vehicle),

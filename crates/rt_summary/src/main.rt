@@ -61,10 +61,7 @@ fn counted(
     };
     match counts {
         Ok(counts) => Ok(counts),
-        Err(ReadEnd::Absent) => Err(Trouble::refused(rt.alloc(), name, "missing file")),
-        Err(ReadEnd::TooLarge) => Err(Trouble::refused(rt.alloc(), name, "too large")),
-        Err(ReadEnd::ReadFault) => Err(Trouble::read(rt.alloc(), name)),
-        Err(ReadEnd::Memory) => Err(Trouble::Memory),
+        Err(end) => Err(Trouble::unread(rt.alloc(), name, end)),
     }
 }
 

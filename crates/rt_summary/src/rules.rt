@@ -3,7 +3,7 @@
 use crate::trouble::Trouble;
 use clap::ArgMatches;
 use report_lines::rule_named;
-use rt_outside::{ReadEnd, RealFiles, read_whole};
+use rt_outside::{RealFiles, read_whole};
 use rule_table::RuleId;
 use std::alloc::AllocError;
 
@@ -39,10 +39,7 @@ pub fn ignored_by(rt: &HostRuntime, matches: &ArgMatches<'_>) -> Result<Vec<Rule
 fn add_file(rt: &HostRuntime, file: &str, rules: &mut Vec<RuleId>) -> Result<(), Trouble> {
     let bytes = match read_whole(rt.alloc(), &mut RealFiles::new(rt), file, FILE_LIMIT) {
         Ok(bytes) => bytes,
-        Err(ReadEnd::Absent) => return Err(Trouble::refused(rt.alloc(), file, "missing file")),
-        Err(ReadEnd::TooLarge) => return Err(Trouble::refused(rt.alloc(), file, "too large")),
-        Err(ReadEnd::ReadFault) => return Err(Trouble::read(rt.alloc(), file)),
-        Err(ReadEnd::Memory) => return Err(Trouble::Memory),
+        Err(end) => return Err(Trouble::unread(rt.alloc(), file, end)),
     };
     match std::str::from_utf8(&bytes) {
         Ok(text) => add_lines(rt, file, text, rules),

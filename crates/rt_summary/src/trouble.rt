@@ -2,7 +2,7 @@
 ghost use Rattle.std.specs.Prelude.{◌≡◌};
 ghost use Rattle.rt_summary.specs.declared.trouble.Trouble.TheVariants.{Memory, Write};
 
-use rt_outside::Failed;
+use rt_outside::{Failed, ReadEnd};
 use std::alloc::{AllocError, Global};
 
 /// Why there is no summary. The statuses are those of `rt_command`.
@@ -28,6 +28,16 @@ impl Trouble {
         match format!(in alloc; "refused: {name}: {why}\n") {
             Ok(text) => Trouble::Refused(text),
             Err(_) => Trouble::Memory,
+        }
+    }
+
+    /// The file of this name isn't read whole.
+    pub fn unread(alloc: Global, name: &str, end: ReadEnd) -> Trouble {
+        match end {
+            ReadEnd::Absent => Trouble::refused(alloc, name, "missing file"),
+            ReadEnd::TooLarge => Trouble::refused(alloc, name, "too large"),
+            ReadEnd::ReadFault => Trouble::read(alloc, name),
+            ReadEnd::Memory => Trouble::Memory,
         }
     }
 

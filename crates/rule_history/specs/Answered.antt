@@ -128,10 +128,13 @@ heads_of s previous = record {
 abbrev pub payload_under : EntityKey → List Keyed → Option (List ℕ)
 payload_under key es = option_map (λ e. e.1) (find (λ e. same_key e.0 key) es)
 
+-- what is answered at all places of a feed alike: by its headers, the timetable, the pairing rows and the peaks
+abbrev pub shared_answer : Option Tables → Gathered → Heads → Ask → Option CellValue
+shared_answer t u heads a = option_or (heads_answer heads a) (option_or (timetable_answer t a) (gathered_answer u a))
+
 -- what is answered of a feed, whatever the place in it
 abbrev pub feed_answer : Option Tables → List Snapshot → ℕ → Ask → Option CellValue
-feed_answer t h f a =
-    option_and_then (λ s. option_or (heads_answer (heads_of s (before h f)) a) (option_or (timetable_answer t a) (gathered_answer (gathered h) a))) (now h f)
+feed_answer t h f a = option_and_then (λ s. shared_answer t (gathered h) (heads_of s (before h f)) a) (now h f)
 
 -- what is answered at an entity
 abbrev pub answer_under : Option Tables → List Snapshot → EntityKey → Ask → Option CellValue

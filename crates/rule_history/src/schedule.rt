@@ -9,9 +9,9 @@ ghost use Rattle.timetable.specs.Timetables.{visits_twice};
 ghost use Rattle.rule_table.specs.Asked.{ask_value};
 ghost use Rattle.rule_history.specs.Answered.{tables_of, timetable_answer, trip_known, trip_row, frequencies_of, exact_number, is_start, is_on_grid, times_of, first_time, time_at, stop_at};
 
-use feed_values::CellRef;
+use feed_values::{CellRef, text_cell};
 use rt_day::parse_time;
-use rule_table::{AskRef, number_cell, text_cell, truth_cell};
+use rule_table::{AskRef, number_cell, truth_cell};
 use timetable::{Frequency, StopTime, Timetable};
 
 fn is_known(table: &Timetable, trip: &str) -> bool

@@ -6,6 +6,7 @@ use Rattle.std.proofs.lemmas.Result.{IfOk-weaker}
 use Rattle.std.specs.FinMap.{get}
 use Rattle.std.specs.Io.KnownBytes.{prepend_known}
 use Rattle.std.proofs.lemmas.Bool.Decides.{nat_tests}
+use Rattle.std.proofs.lemmas.Option.{same_Some}
 use Rattle.rt_outside.specs.Store.{Store, Contents, contents_told, opened, left, left_told, TellsHeld, GivesNext}
 use Rattle.rt_outside.specs.declared.opening.Opening.TheVariants as opening
 use Rattle.feed_values.specs.Accepted.{snapshot_limit}
@@ -19,11 +20,9 @@ use Rattle.run_base.specs.Found.{bytes_in, unless_faulty}
 use Rattle.run_base.proofs.Refusals.{large_refusal}
 
 -- ---- while pieces are read
-same_some : (a b : List ℕ) → Some a ≡ Some b → a ≡ b
-same_some a b e = cc e
 
 left_is : (first now : Store) (pieces : List ℕ) → left_told (Some first) ≡ prepend_known pieces (left_told (Some now)) → left first ≡ pieces ++ left now
-left_is first now pieces e = same_some (left first) (pieces ++ left now) e
+left_is first now pieces e = same_Some (left first) (pieces ++ left now) e
 
 -- pieces came that, with what is left now, are what was left at first
 abbrev pub ReadSoFar : Option Store → Option Store → Sofar → Type 0

@@ -5,7 +5,7 @@ ghost use Rattle.rt_outside.specs.Causes.{Rose};
 ghost use Rattle.rt_outside.specs.Store.{contents_told, left};
 ghost use Rattle.feed_values.specs.Views.{feed_message_value};
 ghost use Rattle.feed_values.specs.WellFormed.{IsWellFormedFeed};
-ghost use Rattle.feed_codec.specs.Refusal.{refusal, refused};
+ghost use Rattle.feed_codec.specs.Refusal.{refusal};
 ghost use Rattle.feed_stream.specs.Came.{Came};
 ghost use Rattle.run_base.specs.Found.{found_value, snapshot_in, decoded};
 ghost use Rattle.run_base.specs.Found.{kept_bytes};
@@ -41,17 +41,11 @@ pub fn read_snapshot<F: Files>(
 {
     match read_whole(alloc, files, file, SNAPSHOT_LIMIT) {
         Ok(bytes) => decoded(alloc, &bytes),
-        Err(ReadEnd::Absent) => Ok(Err(refusal(0, Reason::NoFile))),
-        Err(ReadEnd::TooLarge) => Ok(Err(refusal(SNAPSHOT_LIMIT, Reason::TooLarge))),
+        Err(ReadEnd::Absent) => Ok(Err(Refusal::new(0, Reason::NoFile))),
+        Err(ReadEnd::TooLarge) => Ok(Err(Refusal::new(SNAPSHOT_LIMIT, Reason::TooLarge))),
         Err(ReadEnd::ReadFault) => Err(Fault::Read),
         Err(ReadEnd::Memory) => Err(Fault::Memory),
     }
-}
-
-fn refusal(at: usize, reason: Reason) -> Refusal
-    ensures { result ≡ refused at reason }
-{
-    Refusal { at, reason }
 }
 
 // What the bytes of a snapshot mean, or why they are refused.
@@ -89,7 +83,7 @@ pub fn read_kept<F: Files>(
             let splitter = read_pieces(alloc, files, before)?;
             kept(splitter)
         }
-        Opening::Absent => Ok(Err(refusal(0, Reason::NoFile))),
+        Opening::Absent => Ok(Err(Refusal::new(0, Reason::NoFile))),
         Opening::Failed => Err(Fault::Read),
     }
 }

@@ -3,9 +3,9 @@ use Rattle.std.proofs.Common.{◌≡◌, ℕ, zero, suc, ◌≤◌, ◌<◌, ◌
 use Rattle.std.specs.declared.option.Option.{Option}
 use Rattle.std.specs.declared.alloc.Global.{Global}
 use Rattle.std.specs.Option.{option_and_then}
-use Rattle.std.proofs.lemmas.Bool.Decides.{nat_tests}
 use Rattle.std.specs.List.{list_all}
 use Rattle.std.proofs.lemmas.List.{take_all}
+use Rattle.std.proofs.lemmas.Bool.{leb-true}
 use Rattle.std.specs.Str.{bytes_eq}
 use Rattle.feed_list.specs.Values.{is_path, path_of, number_of}
 use Rattle.alert_terms.specs.declared.query.Query.{Query}
@@ -50,11 +50,8 @@ right_of : (a b : Bool) → (a && b) ≡ true → b ≡ true
 right_of true b e = e
 right_of false b e = absurd (cc e)
 
-few_of : (n m : ℕ) → nat_le n m ≡ true → n ≤ m
-few_of n m e = grind (arith, nat_tests)
-
 few_files : (words : List (List ℕ)) → are_files words ≡ true → length words ≤ file_limit
-few_files words e = few_of (length words) file_limit (left_of _ _ (right_of (nat_lt 0 (length words)) _ e))
+few_files words e = leb-true (length words) file_limit (left_of _ _ (right_of (nat_lt 0 (length words)) _ e))
 
 -- a request on files that are given where a test is true
 given_has : (b : Bool) (ask : List (List ℕ) → Request) (words : List (List ℕ)) (asked : Request) → (b ≡ true → NamesFiles (ask words)) →

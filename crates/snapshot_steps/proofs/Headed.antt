@@ -1,8 +1,7 @@
 -- What is found on a header is what is found by the snapshot and the one before it.
-use Rattle.std.specs.Prelude.{◌≡◌, ℕ, Bool, true, false, not, ◌&&◌, List, [], ◌∷◌, Option, Some, None, option_map, bytes_eq, Result, Ok, Err, IfOk, refl}
+use Rattle.std.specs.Prelude.{◌≡◌, ℕ, Bool, not, ◌&&◌, List, [], ◌∷◌, Option, Some, None, option_map, bytes_eq, refl}
 use Rattle.std.specs.Cmp.Lexicographic.{pointwise}
-use Rattle.std.proofs.Common.{sym, ap, ◌∙◌}
-use Rattle.std.proofs.lemmas.Slice.Eq.{bytes_eq-Decides}
+use Rattle.std.proofs.Common.{ap, ◌∙◌}
 use Rattle.feed_values.specs.Schema.{Value}
 use Rattle.feed_values.specs.Messages.{feed_header}
 use Rattle.feed_values.specs.Snapshot.{entity_payloads, header_of}
@@ -11,7 +10,8 @@ use Rattle.rule_table.specs.Table.{all_rules}
 use Rattle.rule_table.specs.SameHeads.{heads_same}
 use Rattle.rule_table.specs.Found.{Found}
 use Rattle.rule_table.specs.Answers.{Gathered, heads_answer}
-use Rattle.rule_history.specs.Answered.{entities_differ, heads_of}
+use Rattle.rule_table.proofs.SameTests.{text-symm}
+use Rattle.rule_history.specs.Answered.{entities_differ, heads_of, shared_answer}
 use Rattle.rule_history.specs.History.{Snapshot}
 use Rattle.held_feeds.specs.judging.Whole as whole
 use Rattle.engine_laws.specs.HeldFeeds.{head_found}
@@ -22,7 +22,7 @@ use Rattle.held_feeds.specs.cached_laws.State.{snapshot_with}
 header_is : (t : Option Tables) (u : Gathered) (s : Snapshot) (b : Option Snapshot) → whole.header_found t u (heads_of s b) s.feed ≡ head_found s b
 unfolding whole.header_found
 header_is t u s b =
-    heads_same (whole.feed_answer t u (heads_of s b)) (heads_answer (heads_of s b)) (λ a m. heads_first (heads_of s b) _ a m) s.feed all_rules refl
+    heads_same (shared_answer t u (heads_of s b)) (heads_answer (heads_of s b)) (λ a m. heads_first (heads_of s b) _ a m) s.feed all_rules refl
 
 -- what was found on a header, with the header before it
 pub head_is : (t : Option Tables) (u : Gathered) (s : Snapshot) (b : Option Snapshot) (header : Value feed_header) (previous : Option (Value feed_header)) (changed : Bool) (fs : List Found) →
@@ -40,24 +40,12 @@ pub previous_is : (f m : ℕ) (o : Option (List ℕ)) → option_map header_of o
 previous_is f m None = refl
 previous_is f m (Some b) = refl
 
-eq_flip : (a b : List ℕ) → bytes_eq a b ≡ bytes_eq b a
-eq_flip a b = either (bytes_eq a b) refl (bytes_eq b a) refl
-  where
-    either : (x : Bool) → bytes_eq a b ≡ x → (y : Bool) → bytes_eq b a ≡ y → bytes_eq a b ≡ bytes_eq b a
-    either true p y q = p ∙ sym ((bytes_eq-Decides b a).1 (sym ((bytes_eq-Decides a b).0 p)))
-    either false p true q = (bytes_eq-Decides a b).1 (sym ((bytes_eq-Decides b a).0 q)) ∙ sym q
-    either false p false q = p ∙ sym q
-
 both_flip : (xs ys : List (List ℕ)) → pointwise bytes_eq xs ys ≡ pointwise bytes_eq ys xs
 both_flip [] [] = refl
 both_flip [] (y ∷ ys) = refl
 both_flip (x ∷ xs) [] = refl
-both_flip (x ∷ xs) (y ∷ ys) = ap (λ b. b && pointwise bytes_eq xs ys) (eq_flip x y) ∙ ap (λ b. bytes_eq y x && b) (both_flip xs ys)
+both_flip (x ∷ xs) (y ∷ ys) = ap (λ b. b && pointwise bytes_eq xs ys) (text-symm x y) ∙ ap (λ b. bytes_eq y x && b) (both_flip xs ys)
 
 pub differ_is : (f m : ℕ) (o : Option (List ℕ)) (new : List ℕ) → is_reordered o new ≡ entities_differ new (snapshot_with f m o)
 differ_is f m None new = refl
 differ_is f m (Some b) new = ap not (both_flip (entity_payloads b) (entity_payloads new))
-
-pub if_ok : {A E : Type 0} (r : Result A E) (P Q : A → Type 0) → ((x : A) → P x → Q x) → IfOk r P → IfOk r Q
-if_ok (Ok x) P Q w h = w x h
-if_ok (Err e) P Q w h = tt

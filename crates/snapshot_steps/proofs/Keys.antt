@@ -5,6 +5,7 @@ use Rattle.std.specs.List.Sorted.{IsStrictlySortedBy}
 use Rattle.std.proofs.Common.{sym, ap, ◌∙◌}
 use Rattle.rule_table.specs.declared.key.EntityKey.{EntityKey}
 use Rattle.rule_table.specs.Order.{key_cmp, same_key}
+use Rattle.rule_table.proofs.SameTests.{any-same, key-symm}
 use Rattle.rule_history.specs.Standing.{Standing}
 use Rattle.held_feeds.specs.part_laws.Touched.{is_among}
 use Rattle.held_feeds.specs.entity_index.Held.{HeldEntities}
@@ -13,9 +14,7 @@ use Rattle.rule_history.specs.History.{Snapshot}
 use Rattle.held_feeds.specs.row_changes.Held.{AreOfEntities, entity_at}
 use Rattle.held_feeds.specs.row_changes.Touched.{is_over_given}
 use Rattle.held_feeds.specs.row_changes.HeldRows.{HeldRows}
-use Rattle.held_feeds.specs.row_changes.ListsProofs.{any-same}
 use Rattle.held_feeds.specs.row_changes.OverProofs.{over}
-use Rattle.held_feeds.specs.row_changes.MembersProofs.{key-symm}
 use Rattle.held_feeds.specs.touched_entities.Again.{FindPart, IsPassed, list_renewed, list_under, lists_at, renewed_under}
 use Rattle.held_feeds.specs.touched_entities.Told.{FeedTold}
 use Rattle.held_feeds.specs.touched_entities.RisingProofs.{rises_sorted}

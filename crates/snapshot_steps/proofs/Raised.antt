@@ -2,6 +2,7 @@
 use Rattle.std.specs.Prelude.{◌≡◌, ℕ, ◌<◌, ◌==◌, not, ◌&&◌, ◌||◌, Bool, true, false, cond, List, Option, Some, None, option_map, is_none, refl}
 use Rattle.std.proofs.Common.{sym, ap, ◌∙◌, subst, eq-eqb}
 use Rattle.std.proofs.Math.Path.{fun_ext}
+use Rattle.std.proofs.Math.Bool.{and-false}
 use borrow.Author.Tests.{eqb-true}
 use Rattle.feed_values.specs.Snapshot.{entity_of}
 use Rattle.rule_table.specs.declared.key.EntityKey.{EntityKey}
@@ -10,6 +11,7 @@ use Rattle.rule_history.specs.History.{Snapshot, Keyed, IsTaken, entities_in, en
 use Rattle.rule_history.specs.Answered.{payload_under}
 use Rattle.rule_history.specs.Changed.{has_moved}
 use Rattle.rule_history.specs.Peaks.{FeedPeaks, raised_by}
+use Rattle.rule_history.proofs.SameSnapshots.{same_payload}
 use Rattle.engine_laws.specs.HeldFeeds.{HeldFeed, peaks_after}
 use Rattle.held_feeds.specs.part_laws.Touched.{is_among}
 use Rattle.held_feeds.specs.part_laws.StaysProofs.{other_way}
@@ -24,7 +26,6 @@ use Rattle.held_feeds.specs.cached_laws.State.{State, IsState, feed_of}
 use Rattle.held_feeds.specs.cached_laws.Keys.{bytes_before, gives_moved, is_fresh_key, is_peaked_then, lasts_then}
 use Rattle.held_feeds.specs.cached_laws.BoundsProofs.{entities_are, entity_then}
 use Rattle.held_feeds.specs.cached_laws.GoneProofs.{feed_before, gone_some}
-use Rattle.held_feeds.specs.cached_laws.PlacedProofs.{not_other}
 
 module _ (state : State) (s : Snapshot) (is : IsState state) (taken : IsTaken s) (fits : s.feed < 16) (rises : RisesById) (are : AreRises (entities_before s.feed (bytes_before state s.feed)) (peak_of state.peaks s.feed) rises) where
   abbrev old : HeldFeed
@@ -71,10 +72,6 @@ module _ (state : State) (s : Snapshot) (is : IsState state) (taken : IsTaken s)
       ∙ ap (gives_moved old.peaks (peaks_after s (feed_of state) s.feed))
       (entity_then state s is taken fits key ∙ ap (λ b. option_map entity_of (payload_under key (entities_of_snapshot (cond b (Some s) (feed_of state key.feed).last)))) e)
 
-  none_and : (b : Bool) → (b && false) ≡ false
-  none_and true = refl
-  none_and false = refl
-
   -- where an entity isn't fresh
   pub peaked_beside : (key : EntityKey) → is_fresh_key state s key ≡ false → (not (gone key) && gives_rise rises (was key)) ≡ is_peaked_then state s key
   peaked_beside key stays = either (s.feed == key.feed) refl
@@ -86,10 +83,10 @@ module _ (state : State) (s : Snapshot) (is : IsState state) (taken : IsTaken s)
           there None n = left (was key) refl ∙ sym (ap (λ (x : Option (List ℕ)). gives_moved old.peaks (peaks_after s (feed_of state) s.feed) (option_map entity_of x)) n)
             where
               left : (w : Option (List ℕ)) → was key ≡ w → (not (gone key) && gives_rise rises (was key)) ≡ false
-              left None q = ap (λ (x : Option (List ℕ)). not (gone key) && gives_rise rises x) q ∙ none_and (not (gone key))
+              left None q = ap (λ (x : Option (List ℕ)). not (gone key) && gives_rise rises x) q ∙ and-false (not (gone key))
               left (Some p) q = ap (λ b. not b && gives_rise rises (was key)) (gone_some s.feed (bytes_before state s.feed) s.bytes key p q ∙ ap is_none n)
           there (Some p) n =
-              let held : was key ≡ Some p = not_other p (was key) (sym (fresh_is s.feed (bytes_before state s.feed) s.bytes key p n) ∙ stays) in
+              let held : was key ≡ Some p = same_payload p (was key) (sym (fresh_is s.feed (bytes_before state s.feed) s.bytes key p n) ∙ stays) in
               ap (λ b. not b && gives_rise rises (was key)) (gone_some s.feed (bytes_before state s.feed) s.bytes key p held ∙ ap is_none n)
               ∙ ap (gives_rise rises) held
               ∙ rises-move old.last old.peaks rises are_last (vehicle_id_of (entity_of p))
@@ -97,7 +94,7 @@ module _ (state : State) (s : Snapshot) (is : IsState state) (taken : IsTaken s)
               ∙ sym (ap (λ (x : Option (List ℕ)). gives_moved old.peaks (peaks_after s (feed_of state) s.feed) (option_map entity_of x)) n)
       either false e =
           ap (λ (x : Option (List ℕ)). not (gone key) && gives_rise rises x) (none_far s.feed key (entities_before s.feed (bytes_before state s.feed)) (feed_before s.feed (bytes_before state s.feed)) e)
-          ∙ none_and (not (gone key))
+          ∙ and-false (not (gone key))
           ∙ sym (ap (λ b. b && gives_moved old.peaks (peaks_after s (feed_of state) s.feed) (entity_at (lasts_then s (feed_of state)) key)) (other_way s.feed key.feed e))
 
   pub peaked_keys : (key : EntityKey) (raised : Bool) → raised ≡ (not (gone key) && (not (is_fresh_key state s key) && gives_rise rises (was key))) → (is_fresh_key state s key || raised) ≡ (is_fresh_key state s key || is_peaked_then state s key)

@@ -1,7 +1,9 @@
 -- Rows and timestamps exchanged key by key are those of the feeds as they are then.
-use Rattle.std.specs.Prelude.{◌≡◌, ℕ, zero, suc, ◌<◌, ◌==◌, ◌||◌, Bool, true, false, List, [], ◌∷◌, ◌++◌, map, filter, take, length, get_or, Option, Some, None, option_map, is_none, if◌then◌else◌, refl}
+use Rattle.std.specs.Prelude.{◌≡◌, ℕ, zero, suc, ◌<◌, ◌==◌, Bool, true, false, List, [], ◌∷◌, ◌++◌, map, filter, take, length, get_or, Option, Some, None, option_map, is_none, if◌then◌else◌, refl}
 use Rattle.std.specs.declared.cmp.Ordering.TheVariants.{Less}
 use Rattle.std.proofs.Common.{sym, ap, ◌∙◌, subst, arith, eq-eqb}
+use Rattle.std.proofs.lemmas.List.Folds.{list_any-append}
+use Rattle.std.proofs.lemmas.Bool.{or_from, or_parts, or_left, or_right, true≢false}
 use borrow.Author.Tests.{eqb-true}
 use Rattle.feed_values.specs.Schema.{Value}
 use Rattle.feed_values.specs.Messages.{entity}
@@ -11,11 +13,13 @@ use Rattle.rule_table.specs.declared.key.EntityKey.{EntityKey}
 use Rattle.rule_table.specs.Groups.{Each}
 use Rattle.rule_table.specs.Order.{key_cmp, same_key}
 use Rattle.rule_table.specs.Rises.{Rises, Rising}
+use Rattle.rule_table.proofs.SameTests.{any-same, key-symm}
 use Rattle.rule_history.specs.History.{Snapshot, IsTaken, entities_in, entities_of_snapshot}
 use Rattle.rule_history.specs.Answered.{payload_under}
+use Rattle.rule_history.proofs.SameSnapshots.{same_payload}
 use Rattle.engine_laws.specs.HeldFeeds.{IsLastOf}
 use Rattle.engine_laws.proofs.Sorted.{entities_rise}
-use Rattle.engine_laws.proofs.Spots.{key_self, or_false, or_left, or_right}
+use Rattle.engine_laws.proofs.Spots.{key_self}
 use Rattle.held_feeds.specs.part_laws.Touched.{is_among}
 use Rattle.held_feeds.specs.entity_index.Changes.{AreIncoming, fresh_keys, gone_keys}
 use Rattle.held_feeds.specs.entity_index.Held.{entities_before}
@@ -23,8 +27,6 @@ use Rattle.held_feeds.specs.entity_index.Incoming.{Incoming}
 use Rattle.held_feeds.specs.row_changes.Held.{AreAllReplaced, AreReplaced, entity_at, is_done}
 use Rattle.held_feeds.specs.row_changes.HeldRows.{HeldRows}
 use Rattle.held_feeds.specs.row_changes.ChangedIds.{ChangedIds}
-use Rattle.held_feeds.specs.row_changes.ListsProofs.{any-append, any-same}
-use Rattle.held_feeds.specs.row_changes.MembersProofs.{key-symm}
 use Rattle.held_feeds.specs.row_changes.ReplacedProofs.{all}
 use Rattle.held_feeds.specs.touched_entities.Exchanged.{AreDistinct}
 use Rattle.held_feeds.specs.touched_entities.FreshProofs.{fresh_distinct, fresh_far, fresh_is, fresh_none}
@@ -33,7 +35,7 @@ use Rattle.held_feeds.specs.cached_laws.Keys.{bytes_before, lasts_then}
 use Rattle.held_feeds.specs.cached_laws.BoundsProofs.{entity_then, entity_was, last_entities}
 use Rattle.held_feeds.specs.cached_laws.EntriesProofs.{keys_of_rising}
 use Rattle.held_feeds.specs.cached_laws.GoneProofs.{gone_distinct, gone_feed, gone_payload, gone_some}
-use Rattle.held_feeds.specs.cached_laws.PlacedProofs.{not_other}
+use Rattle.held_feeds.specs.touched_entities.OneMoreProofs.{among_drop}
 
 each_index : {A : Type 0} (P : A → Type 0) (xs : List A) (i : ℕ) (d : A) → i < length xs → Each P xs → P (get_or xs i d)
 each_index P [] i d l each = absurd (omega (arith, l))
@@ -47,13 +49,10 @@ each_index P (x ∷ xs) (suc i) d l each = each_index P xs i d (less i (length x
 pub apart_take : (ks : List EntityKey) (i : ℕ) (k : EntityKey) → AreDistinct ks → i < length ks → k ≡ get_or ks i k → is_among (take i ks) k ≡ false
 apart_take [] i k apart l at = absurd (omega (arith, l))
 apart_take (q ∷ qs) zero k apart l at = refl
-apart_take (q ∷ qs) (suc i) k apart l at = neither (subst (λ x. same_key q x ≡ false) (sym at) (each_index (λ x. same_key q x ≡ false) qs i k (less i (length qs) l) apart.0)) (apart_take qs i k apart.1 (less i (length qs) l) at)
+apart_take (q ∷ qs) (suc i) k apart l at = or_from _ _ (subst (λ x. same_key q x ≡ false) (sym at) (each_index (λ x. same_key q x ≡ false) qs i k (less i (length qs) l) apart.0)) (apart_take qs i k apart.1 (less i (length qs) l) at)
   where
     less : (i n : ℕ) → suc i < suc n → i < n
     less i n m = omega (arith, m)
-
-    neither : {a b : Bool} → a ≡ false → b ≡ false → (a || b) ≡ false
-    neither p q = cc
 
 module _ (state : State) (s : Snapshot) (is : IsState state) (taken : IsTaken s) (fits : s.feed < 16) where
   abbrev old : EntityKey → Option (Value entity)
@@ -68,15 +67,6 @@ module _ (state : State) (s : Snapshot) (is : IsState state) (taken : IsTaken s)
   abbrev pub gone : List EntityKey
   gone = gone_keys s.feed (bytes_before state s.feed) s.bytes
 
-  -- one of some keys is among them
-  pub among_index : (ks : List EntityKey) (i : ℕ) (k : EntityKey) → i < length ks → k ≡ get_or ks i k → is_among ks k ≡ true
-  among_index [] i k l at = absurd (omega (arith, l))
-  among_index (q ∷ qs) zero k l at = or_left (same_key q k) (is_among qs k) (ap (λ x. same_key x k) (sym at) ∙ key_self k)
-  among_index (q ∷ qs) (suc i) k l at = or_right (same_key q k) (is_among qs k) (among_index qs i k (less i (length qs) l) at)
-    where
-      less : (i n : ℕ) → suc i < suc n → i < n
-      less i n m = omega (arith, m)
-
   -- ---- what is there then at keys of the snapshot's feed
   entity_here : (k : EntityKey) → k.feed ≡ s.feed → new k ≡ option_map entity_of (payload_under k (entities_in s.feed s.bytes))
   entity_here k h = entity_then state s is taken fits k ∙ ap (λ o. option_map entity_of (payload_under k (entities_of_snapshot o))) (ap (λ b. if b then Some s else (feed_of state k.feed).last) (eq-eqb s.feed k.feed (sym h)))
@@ -84,11 +74,8 @@ module _ (state : State) (s : Snapshot) (is : IsState state) (taken : IsTaken s)
   fresh_feed : (k : EntityKey) → is_among fresh k ≡ true → k.feed ≡ s.feed
   fresh_feed k h = elim (s.feed == k.feed) as (λ b. (s.feed == k.feed) ≡ b → k.feed ≡ s.feed) [
     | true ↦ λ e. sym (eqb-true s.feed k.feed e)
-    | false ↦ λ e. absurd (never (sym h ∙ fresh_far s.feed (bytes_before state s.feed) s.bytes k e))
+    | false ↦ λ e. absurd (true≢false (sym h ∙ fresh_far s.feed (bytes_before state s.feed) s.bytes k e))
   ] refl
-    where
-      never : true ≡ false → ⊥
-      never e = cc
 
   -- an entity that comes is what is there then
   pub coming_new : (coming : List Incoming) → AreIncoming s.feed (bytes_before state s.feed) s.bytes coming → (i : ℕ) (c : Incoming) → i < length coming → c ≡ get_or coming i c → new c.key ≡ Some (entity_value c.entity)
@@ -128,12 +115,9 @@ module _ (state : State) (s : Snapshot) (is : IsState state) (taken : IsTaken s)
   pub gone_once : (came : List EntityKey) → came ≡ fresh → (i : ℕ) (k : EntityKey) → i < length gone → k ≡ get_or gone i k → is_done (came ++ take i gone) k ≡ false
   gone_once came are i k l at =
       not_done (came ++ take i gone) k
-      (any-append (λ q. same_key q k) came (take i gone)
-      ∙ neither (ap (λ ks. is_among ks k) are ∙ fresh_none s.feed (bytes_before state s.feed) s.bytes k (gone_payload s.feed (bytes_before state s.feed) s.bytes k (among_index gone i k l at)))
+      (list_any-append (λ q. same_key q k) came (take i gone)
+      ∙ or_from _ _ (ap (λ ks. is_among ks k) are ∙ fresh_none s.feed (bytes_before state s.feed) s.bytes k (gone_payload s.feed (bytes_before state s.feed) s.bytes k (among_drop gone i k l at)))
       (apart_take gone i k (gone_distinct s.feed (bytes_before state s.feed) s.bytes) l at))
-    where
-      neither : {a b : Bool} → a ≡ false → b ≡ false → (a || b) ≡ false
-      neither p q = cc
 
   -- beside what comes and what is gone all stays
   unchanged : (k : EntityKey) → is_among fresh k ≡ false → is_among gone k ≡ false → old k ≡ new k
@@ -146,15 +130,12 @@ module _ (state : State) (s : Snapshot) (is : IsState state) (taken : IsTaken s)
       far e = entity_was state s is taken fits k ∙ ap (λ es. option_map entity_of (payload_under k es)) (sym (last_entities state s is taken fits k.feed)) ∙ ap (λ o. option_map entity_of (payload_under k (entities_of_snapshot o))) (sym (ap (λ b. if b then Some s else (feed_of state k.feed).last) e)) ∙ sym (entity_then state s is taken fits k)
 
       same : (o : Option (List ℕ)) → payload_under k (entities_in s.feed s.bytes) ≡ o → payload_under k (entities_before s.feed (bytes_before state s.feed)) ≡ o
-      same (Some p) q = not_other p _ (sym (fresh_is s.feed (bytes_before state s.feed) s.bytes k p q) ∙ not_fresh)
+      same (Some p) q = same_payload p _ (sym (fresh_is s.feed (bytes_before state s.feed) s.bytes k p q) ∙ not_fresh)
       same None q = was_none (payload_under k (entities_before s.feed (bytes_before state s.feed))) refl
         where
           was_none : (o : Option (List ℕ)) → payload_under k (entities_before s.feed (bytes_before state s.feed)) ≡ o → payload_under k (entities_before s.feed (bytes_before state s.feed)) ≡ None
           was_none None e = e
-          was_none (Some p) e = absurd (never (sym (ap is_none q) ∙ sym (gone_some s.feed (bytes_before state s.feed) s.bytes k p e) ∙ not_gone))
-            where
-              never : true ≡ false → ⊥
-              never x = cc
+          was_none (Some p) e = absurd (true≢false (sym (ap is_none q) ∙ sym (gone_some s.feed (bytes_before state s.feed) s.bytes k p e) ∙ not_gone))
 
       here : k.feed ≡ s.feed → old k ≡ new k
       here h =
@@ -172,7 +153,7 @@ module _ (state : State) (s : Snapshot) (is : IsState state) (taken : IsTaken s)
   pub all_moved : (came : List EntityKey) → came ≡ fresh → (rows : HeldRows) (ids : ChangedIds) → AreReplaced old new (came ++ gone) rows ids → AreAllReplaced (feed_of state) (lasts_then s (feed_of state)) rows ids
   all_moved came are rows ids replaced =
       all (feed_of state) (lasts_then s (feed_of state)) (λ f. (is.own f).last_of) own_then (came ++ gone)
-      (λ k h. let neither = or_false (is_among came k) (is_among gone k) (sym (any-append (λ q. same_key q k) came gone) ∙ sym (done_is (came ++ gone) k) ∙ h) in
+      (λ k h. let neither = or_parts (is_among came k) (is_among gone k) (sym (list_any-append (λ q. same_key q k) came gone) ∙ sym (done_is (came ++ gone) k) ∙ h) in
       unchanged k (sym (ap (λ ks. is_among ks k) are) ∙ neither.0) neither.1)
       rows ids replaced
 

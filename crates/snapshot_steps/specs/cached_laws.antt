@@ -1,8 +1,9 @@
 -- What `cached_laws` says, for the crates above.
+pub use Rattle.held_feeds.specs.cached_laws.BetweenProofs
 pub use Rattle.held_feeds.specs.cached_laws.Cached
-pub use Rattle.held_feeds.specs.cached_laws.ChangeProofs
 pub use Rattle.held_feeds.specs.cached_laws.CountsProofs
 pub use Rattle.held_feeds.specs.cached_laws.EntriesProofs
+pub use Rattle.held_feeds.specs.cached_laws.GoneProofs
 pub use Rattle.held_feeds.specs.cached_laws.Judged
 pub use Rattle.held_feeds.specs.cached_laws.Keys
 pub use Rattle.held_feeds.specs.cached_laws.Laws

@@ -41,15 +41,11 @@ pub struct Touched {
     pub peaked: Items<EntityKey>,
 }
 
-fn put_copies(
-    alloc: Global,
-    keys: &mut BTreeSet<EntityKey>,
-    some: &[EntityKey],
-) -> Result<(), AllocError>
+fn put_copies(keys: &mut BTreeSet<EntityKey>, some: &[EntityKey]) -> Result<(), AllocError>
     ensures { OnOk result ((key : Key) → contains key_cmp keys.new key ≡ (contains key_cmp keys.old key || list_any (same_key key) some.now)) }
 {
     for key in some {
-        keys.insert(key.clone(alloc)?)?;
+        keys.insert(key.clone()?)?;
     }
     Ok(())
 }
@@ -68,7 +64,7 @@ fn in_order(alloc: Global, some: &[EntityKey]) -> Result<Items<EntityKey>, Alloc
     ensures { IfOk result (AreKeys (is_among some.now)) }
 {
     let mut keys = BTreeSet::new(alloc);
-    put_copies(alloc, &mut keys, some)?;
+    put_copies(&mut keys, some)?;
     let found = keys_in_order(alloc, keys)?;
     Ok(found)
 }
@@ -82,7 +78,7 @@ fn put_in_order(
     ensures { IfOk result (AreKeys (λ key. is_among some.now key || is_among more key)) }
 {
     let mut keys = BTreeSet::new(alloc);
-    put_copies(alloc, &mut keys, some)?;
+    put_copies(&mut keys, some)?;
     put_keys(&mut keys, more)?;
     let found = keys_in_order(alloc, keys)?;
     Ok(found)
@@ -94,7 +90,7 @@ fn copied(alloc: Global, some: &[EntityKey]) -> Result<Items<EntityKey>, AllocEr
 {
     let mut keys = Items::new(alloc);
     for key in some {
-        keys.push(key.clone(alloc)?)?;
+        keys.push(key.clone()?)?;
     }
     Ok(keys)
 }

@@ -53,12 +53,12 @@ impl Standing {
     }
 
     /// Its rule and place, as those of one that closed.
-    pub fn to_closed(&self, alloc: Global) -> Result<Closed, AllocError>
+    pub fn to_closed(&self) -> Result<Closed, AllocError>
         ensures { IfOk result (λ closed. closed_value closed ≡ spot_of self.now.finding) }
     {
         Ok(Closed {
             rule: self.finding.rule(),
-            place: self.finding.place().clone(alloc)?,
+            place: self.finding.place().clone()?,
         })
     }
 }

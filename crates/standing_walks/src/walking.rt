@@ -141,7 +141,7 @@ pub fn put_closed(
         let met = meet(now, at, standing.finding());
         at = met.next;
         if met.standing.is_none() {
-            out.push(standing.to_closed(alloc)?)?;
+            out.push(standing.to_closed()?)?;
         }
     }
     Ok(())

@@ -28,6 +28,7 @@ use Rattle.rule_table.specs.Asks.{is_timetable}
 use Rattle.rule_table.specs.EachRule.{each_rule}
 use Rattle.rule_table.specs.Table.{slots_of, cites_of}
 use Rattle.rule_table.specs.Judged.{places_at, found_at, found_below, found_in, found_all}
+use Rattle.rule_table.proofs.Formed.{values_more}
 use Rattle.rule_history.specs.Answered.{local_answer, table_answer}
 use Rattle.timetable_agree.specs.Alike.{same_trip, same_route, same_stop, same_agency}
 use Rattle.timetable_agree.specs.Agree.{tables_agree}
@@ -123,10 +124,6 @@ two_keys a b make None p h = refl
 two_keys a b make (Some x) None h = refl
 two_keys a b make (Some x) (Some y) h = ap (answered (make x y)) (h x y refl)
 
-values-push : (fs : List Fact) (f : Fact) → values_of (fs ++ f ∷ []) ≡ values_of fs ++ f.value ∷ []
-values-push [] f = refl
-values-push (g ∷ fs) f = ap (λ vs. g.value ∷ vs) (values-push fs f)
-
 module _ (a b : Tables) (once_a : IsDistinct bytes_eq a.stop_times.stops) (once_b : IsDistinct bytes_eq b.stop_times.stops) (key : EntityKey) (e : Value entity) (agreed : tables_agree a b e ≡ true) where
   abbrev Old : Ask → Option CellValue
   Old q = local_answer (Some a) key e q
@@ -212,7 +209,7 @@ module _ (a b : Tables) (once_a : IsDistinct bytes_eq a.stop_times.stops) (once_
           fact_same done (values_of before) are c oks.0,
           λ f h.
               along (done ++ c ∷ []) (before ++ f ∷ []) cs
-              (subst (λ vs. AreCells e p.slot (done ++ c ∷ []) vs) (sym (values-push before f)) (one_cell_more e p.slot done (values_of before) c f.value are (value_cited (values_of before) c f h))) oks.1,
+              (subst (λ vs. AreCells e p.slot (done ++ c ∷ []) vs) (sym (values_more before f)) (one_cell_more e p.slot done (values_of before) c f.value are (value_cited (values_of before) c f h))) oks.1,
         )
 
   place_alike : (rule : RuleId) (s : Slot) (i : ℕ) → are_keyed s [] (cites_of rule) ≡ true → found_at rule Old (place.Entity key (record { slot = s; index = i })) ≡ found_at rule New (place.Entity key (record { slot = s; index = i }))

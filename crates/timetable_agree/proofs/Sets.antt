@@ -4,7 +4,7 @@ use Rattle.std.specs.Prelude.{option_map, slice_get, is_some, bytes_eq}
 use Rattle.std.specs.List.{AllZip, list_all}
 use Rattle.std.specs.Cmp.Lexicographic.{pointwise}
 use Rattle.std.specs.FinMap.{entries, get}
-use Rattle.std.proofs.lemmas.Bool.{and_parts}
+use Rattle.std.proofs.lemmas.Bool.{and_parts, and_from}
 use Rattle.std.proofs.lemmas.Option.{same_Some}
 use Rattle.std.proofs.lemmas.Slice.Eq.{bytes_eq-Decides}
 use borrow.Author.Tests.{eqb-true}
@@ -20,9 +20,6 @@ use Rattle.timetable_agree.specs.Agree.{Agree, AgreeReadsAsSets, SameCourse, Sam
 use Rattle.timetable_agree.specs.Named.{Naming, namings}
 use Rattle.timetable_agree.proofs.Calls.{bytes_are, frequencies_are, number_is, truth_is}
 use Rattle.timetable_agree.proofs.Cells.{all_at, given_is, others_are}
-
-and_both : (p q : Bool) → p ≡ true → q ≡ true → (p && q) ≡ true
-and_both p q h k = ap (λ b. b && q) h ∙ k
 
 -- ---- values that are the same
 same_numbers : (a b : Option ℕ) → a ≡ b → same_number a b ≡ true
@@ -46,9 +43,9 @@ same_rows (x ∷ xs) =
     let start = eq-eqb x.start x.start refl in
     let end = eq-eqb x.end x.end refl in
     let headway = eq-eqb x.headway x.headway refl in
-    and_both (same_frequency x x) (pointwise same_frequency xs xs)
-    (and_both ((x.start == x.start) && (x.end == x.end) && (x.headway == x.headway)) (same_truth x.exact x.exact)
-    (and_both ((x.start == x.start) && (x.end == x.end)) (x.headway == x.headway) (and_both (x.start == x.start) (x.end == x.end) start end) headway)
+    and_from (same_frequency x x) (pointwise same_frequency xs xs)
+    (and_from ((x.start == x.start) && (x.end == x.end) && (x.headway == x.headway)) (same_truth x.exact x.exact)
+    (and_from ((x.start == x.start) && (x.end == x.end)) (x.headway == x.headway) (and_from (x.start == x.start) (x.end == x.end) start end) headway)
     (same_truths x.exact x.exact refl)) (same_rows xs)
 
 -- ---- stop times
@@ -78,9 +75,9 @@ module _ (olds news : List Text) where
   entry_same : (x y : ℕ × StopTime) → SameEntry olds news x y → same_entry olds news x y ≡ true
   entry_same x y h =
       let stop = h.stop in
-      and_both (x.0 == y.0) (same_visit olds news x.1 y.1) (eq-eqb x.0 y.0 h.sequence)
-      (and_both (same_stop_id (slice_get olds x.1.stop) (slice_get news y.1.stop) && same_number x.1.arrival y.1.arrival) (same_number x.1.departure y.1.departure)
-      (and_both (same_stop_id (slice_get olds x.1.stop) (slice_get news y.1.stop)) (same_number x.1.arrival y.1.arrival)
+      and_from (x.0 == y.0) (same_visit olds news x.1 y.1) (eq-eqb x.0 y.0 h.sequence)
+      (and_from (same_stop_id (slice_get olds x.1.stop) (slice_get news y.1.stop) && same_number x.1.arrival y.1.arrival) (same_number x.1.departure y.1.departure)
+      (and_from (same_stop_id (slice_get olds x.1.stop) (slice_get news y.1.stop)) (same_number x.1.arrival y.1.arrival)
       (stop_same (slice_get olds x.1.stop) (slice_get news y.1.stop) stop.0 stop.1 stop.2) (same_numbers x.1.arrival y.1.arrival h.arrival))
       (same_numbers x.1.departure y.1.departure h.departure))
 
@@ -95,7 +92,7 @@ module _ (olds news : List Text) where
   entries_same [] [] h = refl
   entries_same [] (y ∷ ys) h = absurd h
   entries_same (x ∷ xs) [] h = absurd h
-  entries_same (x ∷ xs) (y ∷ ys) h = and_both (same_entry olds news x y) (pointwise (same_entry olds news) xs ys) (entry_same x y h.0) (entries_same xs ys h.1)
+  entries_same (x ∷ xs) (y ∷ ys) h = and_from (same_entry olds news x y) (pointwise (same_entry olds news) xs ys) (entry_same x y h.0) (entries_same xs ys h.1)
 
 -- ---- a trip
 module _ (a b : Tables) (id : Text) where
@@ -107,7 +104,7 @@ module _ (a b : Tables) (id : Text) where
 
   course_same : SameCourse a b id → (same_frequencies a b id && same_times a b id) ≡ true
   course_same c =
-      and_both (same_frequencies a b id) (same_times a b id)
+      and_from (same_frequencies a b id) (same_times a b id)
       (ap (λ fs. pointwise same_frequency (frequencies_in a id) fs) (sym c.frequencies) ∙ same_rows (frequencies_in a id))
       (entries_same a.stop_times.stops b.stop_times.stops (entries (trip_times a.stop_times id)) (entries (trip_times b.stop_times id)) c.times)
 
@@ -136,9 +133,9 @@ module _ (a b : Tables) (id : Text) where
   said_same (Some x) None h = let e = h.0 in absurd cc
   said_same (Some x) (Some y) h =
       let course = and_parts (same_frequencies a b id) (same_times a b id) (course_same (h.2 refl)) in
-      let row = and_both (bytes_eq x.route y.route) (same_number x.direction y.direction)
+      let row = and_from (bytes_eq x.route y.route) (same_number x.direction y.direction)
       (same_bytes x.route y.route (same_Some x.route y.route h.0)) (same_numbers x.direction y.direction (same_Some x.direction y.direction h.1)) in
-      and_both (same_row x y && same_frequencies a b id) (same_times a b id) (and_both (same_row x y) (same_frequencies a b id) row course.0) course.1
+      and_from (same_row x y && same_frequencies a b id) (same_times a b id) (and_from (same_row x y) (same_frequencies a b id) row course.0) course.1
 
   trip_is : same_trip a b id ≡ true → SameTrip a b id
   trip_is h = let said = said_is (trip_in a id) (trip_in b id) h in record { route = said.0; direction = said.1; course = said.2 }
@@ -149,7 +146,7 @@ module _ (a b : Tables) (id : Text) where
 -- ---- an entity
 all_from : {A : Type 0} (p : A → Bool) (xs : List A) → ((i : ℕ) (x : A) → slice_get xs i ≡ Some x → p x ≡ true) → list_all p xs ≡ true
 all_from p [] h = refl
-all_from p (x ∷ xs) h = and_both (p x) (list_all p xs) (h 0 x refl) (all_from p xs (λ i y e. h (suc i) y e))
+all_from p (x ∷ xs) h = and_from (p x) (list_all p xs) (h 0 x refl) (all_from p xs (λ i y e. h (suc i) y e))
 
 given_from : (test : Text → Bool) (o : Option Text) → ((id : Text) → o ≡ Some id → test id ≡ true) → if_given test o ≡ true
 given_from test None h = refl
@@ -177,10 +174,10 @@ module _ (a b : Tables) (e : Value entity) where
       let s = if_given (same_stop a b) n.stop in
       let z = if_given (same_stop a b) n.assigned_stop in
       let g = if_given (same_agency a b) n.agency in
-      and_both (r && q && s && z) g
-      (and_both (r && q && s) z
-      (and_both (r && q) s
-      (and_both r q
+      and_from (r && q && s && z) g
+      (and_from (r && q && s) z
+      (and_from (r && q) s
+      (and_from r q
       (given_from (same_route a b) n.trip_route (λ id is. same_truths (is_some (get a.routes id)) (is_some (get b.routes id)) (h.trip_routes id (i, n, there, is))))
       (given_from (same_route a b) n.route (λ id is. same_truths (is_some (get a.routes id)) (is_some (get b.routes id)) (h.routes id (i, n, there, is)))))
       (given_from (same_stop a b) n.stop (λ id is. same_numbers (kind_in a.stops id) (kind_in b.stops id) (h.stops id (i, n, there, is)))))
@@ -189,7 +186,7 @@ module _ (a b : Tables) (e : Value entity) where
 
   agree_same : Agree a b e → tables_agree a b e ≡ true
   agree_same h =
-      and_both (list_all (same_named_trip a b) (namings e)) (list_all (same_others a b) (namings e))
+      and_from (list_all (same_named_trip a b) (namings e)) (list_all (same_others a b) (namings e))
       (all_from (same_named_trip a b) (namings e) (λ i n there. given_from (same_trip a b) n.trip (λ id is. trip_same a b id (h.trips id (i, n, there, is)))))
       (all_from (same_others a b) (namings e) (others_same h))
 

@@ -1,5 +1,6 @@
 -- What is true of all that the parts of an entity name, part by part.
 use Rattle.std.proofs.Common.{◌≡◌, Bool, true, false, ◌&&◌, List, [], ◌∷◌, ◌++◌, map, refl, sym, ap, ◌∙◌}
+use Rattle.std.proofs.lemmas.List.Folds.{list_all-append}
 use Rattle.std.specs.List.{list_all}
 use Rattle.feed_values.specs.Schema.{Value}
 use Rattle.feed_values.specs.Messages.{entity_selector, stop_time_update}
@@ -15,10 +16,6 @@ and_true : (b c : Bool) → true ≡ c → b ≡ (b && c)
 and_true true c h = h
 and_true false c h = refl
 
-all-append : {A : Type 0} (p : A → Bool) (xs ys : List A) → list_all p (xs ++ ys) ≡ (list_all p xs && list_all p ys)
-all-append p [] ys = refl
-all-append p (x ∷ xs) ys = and_assoc (p x) (list_all p (xs ++ ys)) (list_all p xs) (list_all p ys) (all-append p xs ys)
-
 all-map : {A B : Type 0} (p : B → Bool) (f : A → B) (xs : List A) → list_all p (map f xs) ≡ list_all (λ x. p (f x)) xs
 all-map p f [] = refl
 all-map p f (x ∷ xs) = ap (λ b. p (f x) && b) (all-map p f xs)
@@ -30,7 +27,7 @@ all_items p f xs ys r e h = h ∙ sym (all-map p f xs) ∙ ap (list_all p) e
 module _ (p : Naming → Bool) (u v : Naming) (ss : List (Value entity_selector)) (us : List (Value stop_time_update)) where
   rest : list_all p (map by_selector ss ++ map by_stop us) ≡ (list_all (λ s. p (by_selector s)) ss && list_all (λ s. p (by_stop s)) us)
   rest =
-      all-append p (map by_selector ss) (map by_stop us)
+      list_all-append p (map by_selector ss) (map by_stop us)
       ∙ ap (λ b. b && list_all p (map by_stop us)) (all-map p by_selector ss)
       ∙ ap (λ b. list_all (λ s. p (by_selector s)) ss && b) (all-map p by_stop us)
 

@@ -7,7 +7,7 @@ ghost use Rattle.timetable_agree.specs.Named.{named_value, nothing, by_trip, by_
 
 use feed_values::{
     Apart, Boxed, Entity, EntitySelector, StopTimeProperties, StopTimeUpdate, Text, TripDescriptor,
-    VehiclePosition,
+    VehiclePosition, given,
 };
 
 /// The ids of a timetable's rows that a part of an entity gives.
@@ -33,15 +33,6 @@ fn nothing() -> Named<'static>
         stop: None,
         assigned_stop: None,
         agency: None,
-    }
-}
-
-fn given(id: &Option<Text>) -> Option<&Text>
-    ensures { option_copied result ≡ id.now }
-{
-    match id {
-        None => None,
-        Some(id) => Some(id),
     }
 }
 

@@ -3,10 +3,11 @@
 use crate::held::Held;
 use crate::lengthened::Lengthened;
 use crate::trips;
-use cases::{say_some, say_whether, size, word};
+use cases::{say, say_some, say_whether, size, word};
 use rt_outside::Files;
+use run_timetable::why_refused;
 use std::alloc::{AllocError, Global};
-use timetable::Timetable;
+use timetable::{LoadFault, Timetable};
 
 // Answers `present`, `agency ID`, `route ID`, `stop ID`, and what is asked of a trip.
 fn answer_of(
@@ -34,8 +35,18 @@ fn answer_in<F: Files + Drop>(
 ) -> Result<(), AllocError> {
     match Timetable::load(alloc, &mut files, folder) {
         Ok(table) => answer_of(alloc, &table, words, out),
-        Err(fault) => say_some(alloc, out, Some(fault)),
+        Err(fault) => say_refused(alloc, fault, out),
     }
+}
+
+// What is told of a timetable that is refused, without its folder.
+fn say_refused(alloc: Global, fault: LoadFault, out: &mut Vec<u8>) -> Result<(), AllocError> {
+    let told = match fault {
+        LoadFault::ReadFault(file) => format!(in alloc; "{}: read fault", file.name())?,
+        _ => why_refused(alloc, "", fault)?,
+    };
+    let told = told.as_str();
+    say(out, told.strip_prefix("/").unwrap_or(told))
 }
 
 // The words from a place on.

@@ -1,7 +1,8 @@
 -- Where two timetables agree for an entity, its first list is the same with either.
-use Rattle.std.specs.Prelude.{◌≡◌, ◌++◌, not, Bool, true, false, List, Option, Some, None, bytes_eq, if◌then◌else◌, refl}
+use Rattle.std.specs.Prelude.{◌≡◌, ◌++◌, Bool, true, false, List, Option, Some, None, bytes_eq, if◌then◌else◌}
 use Rattle.std.specs.List.{IsDistinct}
 use Rattle.std.proofs.Common.{sym, ap, ◌∙◌}
+use Rattle.std.proofs.lemmas.Bool.{not-false}
 use Rattle.feed_values.specs.Schema.{Value}
 use Rattle.feed_values.specs.Messages.{entity}
 use Rattle.timetable.specs.Lookups.{is_present, tables_in}
@@ -29,9 +30,5 @@ each_once t h = go (is_present t)
 
 pub found_alike : (t u : Option Tables) → HasEachStopOnce t → HasEachStopOnce u → (e : EntityKey × Value entity) → differs t u e ≡ false → local_found t e.0 e.1 ≡ local_found u e.0 e.1
 found_alike t u a b e h =
-    ap (λ fs. in_rule_order (fs ++ found_all schedule_rules (local_answer t e.0 e.1) e.0 e.1)) (agreeing_find_alike t u a b e.0 e.1 (turned (agree t u e.1) h) message_rules)
-    ∙ ap (λ fs. in_rule_order (found_all message_rules (local_answer u e.0 e.1) e.0 e.1 ++ fs)) (agreeing_find_alike t u a b e.0 e.1 (turned (agree t u e.1) h) schedule_rules)
-  where
-    turned : (b : Bool) → not b ≡ false → b ≡ true
-    turned true k = refl
-    turned false k = cc
+    ap (λ fs. in_rule_order (fs ++ found_all schedule_rules (local_answer t e.0 e.1) e.0 e.1)) (agreeing_find_alike t u a b e.0 e.1 (not-false (agree t u e.1) h) message_rules)
+    ∙ ap (λ fs. in_rule_order (found_all message_rules (local_answer u e.0 e.1) e.0 e.1 ++ fs)) (agreeing_find_alike t u a b e.0 e.1 (not-false (agree t u e.1) h) schedule_rules)

@@ -1,8 +1,9 @@
 -- Entities that pass a test, and their keys.
-use Rattle.std.specs.Prelude.{◌≡◌, ℕ, suc, ◌+◌, ◌||◌, Bool, true, false, cond, List, [], ◌∷◌, ◌++◌, filter, length, map, Option, refl}
+use Rattle.std.specs.Prelude.{◌≡◌, ℕ, suc, ◌+◌, Bool, true, false, cond, List, [], ◌∷◌, ◌++◌, filter, length, map, Option, refl}
 use Rattle.std.specs.List.{list_any}
 use Rattle.std.specs.declared.cmp.Ordering.TheVariants.{Less}
 use Rattle.std.proofs.Common.{sym, ap, ◌∙◌, subst, arith}
+use Rattle.std.proofs.lemmas.Bool.{or_left, or_right}
 use Rattle.feed_values.specs.Schema.{Value}
 use Rattle.feed_values.specs.Messages.{entity}
 use Rattle.timetable.specs.Timetables.{Tables}
@@ -40,18 +41,12 @@ module _ (test : EntityKey × Value entity → Bool) where
   picked_rise (e ∷ es) h = elim (test e) as (λ b. Rises key_cmp (with_first e es b)) [ true ↦ (above e.0 es h.0, picked_rise es h.1) | false ↦ picked_rise es h.1 ]
 
   -- ---- each of some entities
-  or_more : (a b : Bool) → b ≡ true → (a || b) ≡ true
-  or_more true b h = refl
-  or_more false b h = h
-
-  or_first : (a b : Bool) → a ≡ true → (a || b) ≡ true
-  or_first a b h = ap (λ x. x || b) h
 
   all_in : (es : KeyedValues) → Each (λ e. is_in (map (λ d. d.0) es) e.0 ≡ true) es
   all_in [] = tt
   all_in (e ∷ es) = (
-    or_first (same_key e.0 e.0) (is_in (map (λ d. d.0) es) e.0) (key_self e.0),
-    each_weaken (λ d. is_in (map (λ x. x.0) es) d.0 ≡ true) (λ d. is_in (map (λ x. x.0) (e ∷ es)) d.0 ≡ true) (λ d m. or_more (same_key e.0 d.0) (is_in (map (λ x. x.0) es) d.0) m) es (all_in es),
+    or_left (same_key e.0 e.0) (is_in (map (λ d. d.0) es) e.0) (key_self e.0),
+    each_weaken (λ d. is_in (map (λ x. x.0) es) d.0 ≡ true) (λ d. is_in (map (λ x. x.0) (e ∷ es)) d.0 ≡ true) (λ d m. or_right (same_key e.0 d.0) (is_in (map (λ x. x.0) es) d.0) m) es (all_in es),
   )
 
   each_picked : (P : EntityKey → Type 0) (es : KeyedValues) → Each (λ e. P e.0) es → Each P (picked es)
@@ -67,10 +62,10 @@ module _ (test : EntityKey × Value entity → Bool) where
   passed_in (e ∷ es) = (first, each_weaken (λ d. test d ≡ true → is_in (picked es) d.0 ≡ true) (λ d. test d ≡ true → is_in (picked (e ∷ es)) d.0 ≡ true) later es (passed_in es))
     where
       first : test e ≡ true → is_in (picked (e ∷ es)) e.0 ≡ true
-      first h = ap (λ b. is_in (with_first e es b) e.0) h ∙ or_first (same_key e.0 e.0) (is_in (picked es) e.0) (key_self e.0)
+      first h = ap (λ b. is_in (with_first e es b) e.0) h ∙ or_left (same_key e.0 e.0) (is_in (picked es) e.0) (key_self e.0)
 
       later : (d : EntityKey × Value entity) → (test d ≡ true → is_in (picked es) d.0 ≡ true) → test d ≡ true → is_in (picked (e ∷ es)) d.0 ≡ true
-      later d m h = elim (test e) as (λ b. is_in (with_first e es b) d.0 ≡ true) [ true ↦ or_more (same_key e.0 d.0) (is_in (picked es) d.0) (m h) | false ↦ m h ]
+      later d m h = elim (test e) as (λ b. is_in (with_first e es b) d.0 ≡ true) [ true ↦ or_right (same_key e.0 d.0) (is_in (picked es) d.0) (m h) | false ↦ m h ]
 
   -- so two timetables that find the same by all that don't pass find the same beside those that do
   pub alike_beside : (t u : Option Tables) → ((e : EntityKey × Value entity) → test e ≡ false → local_found t e.0 e.1 ≡ local_found u e.0 e.1) → (es : KeyedValues) → FindAlikeBeside (picked es) t u es

@@ -36,7 +36,7 @@ fn put_touched(
     ensures keys { OnOk result (keys.new ≡ keys.old ++ keys_of_differing (tables_of comparison.old.before.now) (tables_of comparison.old.after.now) ((key.now, entity_value entity.now) ∷ [])) }
 {
     if !comparison.agrees(alloc, entity)? {
-        keys.push(key.clone(alloc)?)?;
+        keys.push(key.clone()?)?;
     }
     Ok(())
 }

@@ -4,7 +4,7 @@ use Rattle.std.specs.List.{list_any}
 use Rattle.std.specs.Ordering.{eq_by_cmp}
 use Rattle.rule_table.specs.Order.{key_cmp, same_key}
 use Rattle.rule_table.proofs.SameKeys.{same-key}
-use Rattle.row_changes.proofs.Lists.{any-same}
+use Rattle.rule_table.proofs.SameTests.{any-same}
 use Rattle.row_changes.proofs.touched.bounded_keys.Goals as goal
 
 pub returns-clause-bounded : goal.returns-clause-bounded

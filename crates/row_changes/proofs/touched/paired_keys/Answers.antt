@@ -7,10 +7,10 @@ use Rattle.rule_table.specs.declared.kind.Kind.TheVariants.{TripUpdate, Vehicle}
 use Rattle.rule_table.specs.Order.{key_cmp, same_key}
 use Rattle.rule_table.specs.Pairs.{is_of}
 use Rattle.rule_table.proofs.SameKeys.{same-key}
+use Rattle.rule_table.proofs.SameTests.{any-same}
 use Rattle.rule_history.specs.Changed.{differ}
 use Rattle.row_changes.specs.Ids.{has_given}
 use Rattle.row_changes.specs.Touched.{has_turned}
-use Rattle.row_changes.proofs.Lists.{any-same}
 use Rattle.row_changes.proofs.Named.{all-named}
 use Rattle.row_changes.proofs.TextSets.{rows-given}
 use Rattle.row_changes.proofs.touched.paired_keys.Goals as goal

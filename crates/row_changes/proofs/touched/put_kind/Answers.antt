@@ -1,15 +1,15 @@
 use Rattle.std.proofs.Common.{◌&&◌, ◌||◌, ap, ◌∙◌, sym}
+use Rattle.std.proofs.Math.Bool.{or-false}
 use Rattle.std.specs.BTreeSet.{contains}
 use Rattle.std.specs.List.{list_any}
 use Rattle.rule_table.specs.Order.{key_cmp, same_key}
 use Rattle.rule_table.specs.Pairs.{is_of}
-use Rattle.row_changes.proofs.Lists.{or-none}
 use Rattle.row_changes.proofs.touched.put_kind.Goals as goal
 
 pub returns-then-not-turned : goal.returns-then-not-turned
 returns-then-not-turned c = λ key.
     let any = list_any (λ r. is_of c.args.kind r && same_key key r.key) c.args.pairs.now in
-    sym (ap (λ b. contains key_cmp c.args.keys.now key || (b && any)) c.if-not-turned.true ∙ or-none (contains key_cmp c.args.keys.now key))
+    sym (ap (λ b. contains key_cmp c.args.keys.now key || (b && any)) c.if-not-turned.true ∙ or-false (contains key_cmp c.args.keys.now key))
 
 pub returns : goal.returns
 returns c = λ key.

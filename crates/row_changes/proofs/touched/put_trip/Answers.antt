@@ -2,7 +2,7 @@ use Rattle.std.proofs.Common.{◌&&◌, ◌||◌, ap, ◌∙◌}
 use Rattle.std.specs.BTreeSet.{contains}
 use Rattle.rule_table.specs.Order.{key_cmp, same_key}
 use Rattle.rule_table.specs.Pairs.{is_id}
-use Rattle.row_changes.proofs.Lists.{any-same}
+use Rattle.rule_table.proofs.SameTests.{any-same}
 use Rattle.row_changes.proofs.touched.put_trip.Goals as goal
 
 pub returns : goal.returns

@@ -11,8 +11,9 @@ use Rattle.held_feeds.specs.cached_laws.State.{feed_of}
 use Rattle.held_feeds.specs.cached_laws.Keys.{lasts_then}
 use Rattle.held_feeds.specs.cached_laws.BoundsProofs.{entity_was}
 use Rattle.held_feeds.specs.States.{state_of}
+use Rattle.held_feeds.specs.touched_entities.OneMoreProofs.{among_drop}
 use Rattle.snapshot_steps.specs.Taken.{snapshot_of}
-use Rattle.snapshot_steps.proofs.Replaced.{among_index, gone, gone_new, gone_once}
+use Rattle.snapshot_steps.proofs.Replaced.{gone, gone_new, gone_once}
 use Rattle.snapshot_steps.proofs.moving.take_gone.Goals as goal
 
 pub loop-key-preserved : goal.loop-key-preserved
@@ -33,7 +34,7 @@ loop-key-preserved c =
     let m : i < length all = subst (λ (ks : List EntityKey). i < length ks) are l in
     let there : key ≡ get_or all i key = at ∙ ap (λ (ks : List EntityKey). get_or ks i key) are in
     let was = c.entity_of-old.ensures ∙ sym (entity_was state s c.requires.state c.requires.taken c.requires.feed key) in
-    let now = sym (gone_new state s c.requires.state c.requires.taken c.requires.feed key (among_index state s c.requires.state c.requires.taken c.requires.feed all i key m there)) in
+    let now = sym (gone_new state s c.requires.state c.requires.taken c.requires.feed key (among_drop all i key m there)) in
     let held = c.loop-key.invariant in
     record {
       replaced =

@@ -4,8 +4,8 @@ use Rattle.std.specs.List.{list_any}
 use Rattle.std.specs.Ordering.{eq_by_cmp}
 use Rattle.rule_table.specs.Order.{key_cmp, same_key}
 use Rattle.rule_table.proofs.SameKeys.{same-key}
+use Rattle.rule_table.proofs.SameTests.{any-same}
 use Rattle.held_feeds.specs.part_laws.Touched.{is_among}
-use Rattle.held_feeds.specs.row_changes.ListsProofs.{any-same}
 use Rattle.snapshot_steps.proofs.Keys.{any_among, keys_are}
 use Rattle.snapshot_steps.proofs.touching.put_in_order.Goals as goal
 

@@ -1,15 +1,13 @@
-use Rattle.std.proofs.Common.{◌≡◌, ◌||◌, ◌∷◌, [], List, length, ap, ◌∙◌, sym, refl, arith, rules}
+use Rattle.std.proofs.Common.{◌≡◌, ◌||◌, ◌∷◌, [], length, ap, ◌∙◌, sym, refl, arith, rules}
+use Rattle.std.proofs.Math.Bool.{or-false}
+use Rattle.std.proofs.lemmas.List.{nil_from_length}
 use Rattle.std.specs.BTreeSet.{contains}
 use Rattle.std.specs.List.{list_any}
 use Rattle.std.specs.Vec.Iter.{into_iter_items}
 use Rattle.rule_table.specs.Order.{key_cmp, same_key}
 use Rattle.pairing_rules.proofs.SharedKeys.{key-put}
-use Rattle.held_feeds.specs.row_changes.ListsProofs.{one-less, or-none}
+use Rattle.held_feeds.specs.row_changes.ListsProofs.{one-less}
 use Rattle.snapshot_steps.proofs.touching.put_keys.Goals as goal
-
-nothing_left : {X : Type 0} (l : List X) → length l ≡ 0 → l ≡ []
-nothing_left [] h = refl
-nothing_left (x ∷ xs) h = absurd (omega arith)
 
 pub loop-key-init : goal.loop-key-init
 loop-key-init c = record {
@@ -36,5 +34,5 @@ pub returns : goal.returns
 returns c = λ k.
     let at = c.loop-key in
     let none = c.in-None.ensures.steps in
-    let empty : into_iter_items at.key-iterator ≡ [] = nothing_left _ (sym at.invariant.length_is ∙ none.0) in
-    sym (ap (λ xs. contains key_cmp at.keys k || list_any (same_key k) xs) empty ∙ or-none (contains key_cmp at.keys k)) ∙ at.invariant.keys_are k
+    let empty : into_iter_items at.key-iterator ≡ [] = nil_from_length _ (sym at.invariant.length_is ∙ none.0) in
+    sym (ap (λ xs. contains key_cmp at.keys k || list_any (same_key k) xs) empty ∙ or-false (contains key_cmp at.keys k)) ∙ at.invariant.keys_are k

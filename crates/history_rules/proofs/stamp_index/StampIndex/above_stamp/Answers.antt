@@ -6,7 +6,8 @@ use Rattle.rule_table.specs.Order.{key_cmp, same_key}
 use Rattle.history_rules.specs.Stamps.{is_above, stamps_of}
 use Rattle.history_rules.specs.StampGroups.{between}
 use Rattle.rule_table.proofs.SameKeys.{same-key}
-use Rattle.history_rules.proofs.StampGroups.{any-same, between-above, far}
+use Rattle.rule_table.proofs.SameTests.{any-same}
+use Rattle.history_rules.proofs.StampGroups.{between-above, far}
 use Rattle.history_rules.proofs.stamp_index.StampIndex.above_stamp.Goals as goal
 
 pub returns-clause-above : goal.returns-clause-above
