@@ -38,6 +38,7 @@
 //! - `snapshot`: a whole snapshot, checked and decoded
 //! - `laws`: that a refusal is the first fault, and that the parts of a snapshot decide as the whole
 //! - `encoding`: any message, written slot by slot
+//! - in `encoding`, `held`, `scalars` and `payload`: what a slot holds, written, be it a text, a number or messages
 //! - in `encoding`, `descriptors`, `properties`, `translation`, `alert`, `vehicle_position`, `trip_update`, `feed`: the kinds of
 //!   message, written
 //! - `canonical`: a whole snapshot, written

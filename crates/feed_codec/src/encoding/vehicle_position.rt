@@ -6,19 +6,18 @@ ghost use Rattle.feed_values.specs.WellFormed.{SlotsFit};
 ghost use Rattle.feed_values.specs.Canonical.{canonical};
 ghost use Rattle.feed_codec.specs.Encoding.{position_from_timestamp, held_from_timestamp};
 
-use crate::encoding::{
-    Encode, put_bits32, put_bits64, put_enum, put_optional, put_optional_text, put_u32, put_u64,
-    put_unknown,
-};
+use crate::encoding::held::Held;
+use crate::encoding::scalars::{Bits32, Bits64};
+use crate::encoding::{Encode, put_unknown};
 use feed_values::{Position, VehiclePosition};
 use std::alloc::{AllocError, Global};
 
 impl Encode for VehiclePosition {
     fn put(&self, alloc: Global, out: &mut Vec<u8>) -> Result<(), AllocError> {
-        put_optional(alloc, out, 1, &self.trip)?;
-        put_optional(alloc, out, 2, &self.position)?;
-        put_u32(out, 3, self.current_stop_sequence)?;
-        put_enum(out, 4, self.current_status)?;
+        self.trip.put_in(alloc, out, 1)?;
+        self.position.put_in(alloc, out, 2)?;
+        self.current_stop_sequence.put_in(alloc, out, 3)?;
+        self.current_status.put_in(alloc, out, 4)?;
         put_from_timestamp(alloc, out, self)
     }
 }
@@ -33,21 +32,21 @@ fn put_from_timestamp(
     ensures { OnOk result (out.new.items
         ≡ out.old.items ++ canonical position_from_timestamp (held_from_timestamp (vehicle_position_value position.now))) }
 {
-    put_u64(out, 5, position.timestamp)?;
-    put_enum(out, 6, position.congestion_level)?;
-    put_optional_text(out, 7, &position.stop_id)?;
-    put_optional(alloc, out, 8, &position.vehicle)?;
-    put_enum(out, 9, position.occupancy_status)?;
+    position.timestamp.put_in(alloc, out, 5)?;
+    position.congestion_level.put_in(alloc, out, 6)?;
+    position.stop_id.put_in(alloc, out, 7)?;
+    position.vehicle.put_in(alloc, out, 8)?;
+    position.occupancy_status.put_in(alloc, out, 9)?;
     put_unknown::<VehiclePosition>(out, &position.unknown)
 }
 
 impl Encode for Position {
-    fn put(&self, _alloc: Global, out: &mut Vec<u8>) -> Result<(), AllocError> {
-        put_bits32(out, 1, Some(self.latitude))?;
-        put_bits32(out, 2, Some(self.longitude))?;
-        put_bits32(out, 3, self.bearing)?;
-        put_bits64(out, 4, self.odometer)?;
-        put_bits32(out, 5, self.speed)?;
+    fn put(&self, alloc: Global, out: &mut Vec<u8>) -> Result<(), AllocError> {
+        Bits32(Some(self.latitude)).put_in(alloc, out, 1)?;
+        Bits32(Some(self.longitude)).put_in(alloc, out, 2)?;
+        Bits32(self.bearing).put_in(alloc, out, 3)?;
+        Bits64(self.odometer).put_in(alloc, out, 4)?;
+        Bits32(self.speed).put_in(alloc, out, 5)?;
         put_unknown::<Position>(out, &self.unknown)
     }
 }
