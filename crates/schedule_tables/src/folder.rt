@@ -1,20 +1,14 @@
 //! Timetable files of a folder.
 
-ghost use Rattle.std.specs.Prelude.{◌≡◌, ◌≤◌, IfOk, IfSome, Err, string_bytes};
-ghost use Rattle.rt_outside.specs.Causes.{Rose};
-ghost use Rattle.rt_outside.specs.Store.{contents_told};
-ghost use Rattle.schedule_tables.specs.Folders.{Answers, IsRead, path, table_of_file};
-ghost use Rattle.schedule_tables.specs.declared.fault.LoadFault.TheVariants as fault;
-ghost use Rattle.schedule_rows.specs.declared.file.File.{File};
+ghost use Rattle.std.specs.Prelude.{◌≡◌, IfOk, string_bytes};
+ghost use Rattle.schedule_tables.specs.Folders.{path};
 
 use crate::fault::LoadFault;
-use crate::grouped::{Group, Grouped};
 use crate::stop_times::StopTimes;
 use crate::table::{Table, absent_table, read_table};
-use crate::trips::Trips;
 use crate::visits::Visits;
 use rt_outside::{Files, ReadEnd, read_whole};
-use schedule_rows::{File, Item};
+use schedule_rows::File;
 use std::alloc::{AllocError, Global};
 
 /// The name of a file in a folder.
@@ -22,6 +16,17 @@ fn path(alloc: Global, folder: &str, file: File) -> Result<String, AllocError>
     ensures { IfOk result (λ name. string_bytes name ≡ path folder.now file) }
 {
     format!(in alloc; "{folder}/{}", file.name())
+}
+
+/// What tables are read from.
+#[derive(Clone, Copy, Debug)]
+pub struct Folder<'a> {
+    /// The folder's name.
+    pub name: &'a str,
+    /// How many bytes a file may have.
+    pub limit: usize,
+    /// How many ids are awaited in the first table, 0 where nothing is known.
+    pub awaited: usize,
 }
 
 /// One table, or several that are read one after the other.
@@ -39,71 +44,44 @@ pub trait Source: Sized {
     ghost read: { Self → Type 0 };
 
     /// How many ids the table after it may have too, 0 where nothing is known.
-    fn ids(&self) -> usize {
+    fn known_ids(&self) -> usize {
         0
     }
 
-    /// Reads the files from a folder, none of more than `limit` bytes. `awaited` is `ids` of the table before.
-    fn load<F: Files>(
-        alloc: Global,
-        files: &mut F,
-        folder: &str,
-        limit: usize,
-        awaited: usize,
-    ) -> Result<Self, LoadFault>
+    /// Reads the files from a folder.
+    fn load<F: Files>(alloc: Global, files: &mut F, from: Folder<'_>) -> Result<Self, LoadFault>
         ensures tables { IfSome (contents_told (F.state files.old).told)
-            (λ contents. Answers (tables limit folder.now contents) result) }
+            (λ contents. Answers (tables from.entry.limit from.entry.name.now contents) result) }
         ensures read { IfOk result read }
         ensures contents { contents_told (F.state files.new).told ≡ contents_told (F.state files.old).told }
         ensures later { (F.state files.old).faults ≤ (F.state files.new).faults }
         ensures cause { (file : File) → result ≡ Err (fault.ReadFault file)
             → Rose (F.state files.old).faults (F.state files.new).faults }
         ensures asked { (file : File) → result ≡ Err (fault.ReadFault file)
-            → IfSome (F.state files.new).asked (λ last. last ≡ path folder.now file) };
+            → IfSome (F.state files.new).asked (λ last. last ≡ path from.entry.name.now file) };
 }
 
-impl<G: Group + Drop> Source for Grouped<G>
-where
-    G::Item: Item,
-{
+/// A table that one file fills.
+impl<T: Table + Drop> Source for T {
     ghost use Rattle.schedule_tables.specs.Folders.{IsRead, table_of_file};
-    ghost use Rattle.schedule_tables.specs.Formats.{by_id};
 
-    ghost tables = { λ limit folder contents. table_of_file (by_id G.Item.source G.Item.row_of G.grouping) limit folder contents };
+    ghost tables = { λ limit folder contents. table_of_file T.format limit folder contents };
 
-    ghost read = { IsRead (by_id G.Item.source G.Item.row_of G.grouping) };
+    ghost read = { IsRead T.format };
 
-    fn load<F: Files>(
-        alloc: Global,
-        files: &mut F,
-        folder: &str,
-        limit: usize,
-        awaited: usize,
-    ) -> Result<Grouped<G>, LoadFault> {
-        load_table(alloc, files, folder, limit, awaited)
-    }
-}
-
-impl Source for Trips {
-    ghost use Rattle.schedule_tables.specs.Folders.{IsRead, table_of_file};
-    ghost use Rattle.schedule_tables.specs.Formats.{trips};
-
-    ghost tables = { λ limit folder contents. table_of_file trips limit folder contents };
-
-    ghost read = { IsRead trips };
-
-    fn ids(&self) -> usize {
-        self.len()
+    fn known_ids(&self) -> usize {
+        self.ids()
     }
 
-    fn load<F: Files>(
-        alloc: Global,
-        files: &mut F,
-        folder: &str,
-        limit: usize,
-        awaited: usize,
-    ) -> Result<Trips, LoadFault> {
-        load_table(alloc, files, folder, limit, awaited)
+    fn load<F: Files>(alloc: Global, files: &mut F, from: Folder<'_>) -> Result<T, LoadFault> {
+        let name = path(alloc, from.name, T::file())?;
+        match read_whole(alloc, files, name.as_str(), from.limit) {
+            Ok(bytes) => read_table(alloc, bytes.as_slice(), from.awaited),
+            Err(ReadEnd::Absent) => absent_table(alloc),
+            Err(ReadEnd::TooLarge) => Err(LoadFault::TooLarge(T::file())),
+            Err(ReadEnd::ReadFault) => Err(LoadFault::ReadFault(T::file())),
+            Err(ReadEnd::Memory) => Err(LoadFault::Memory),
+        }
     }
 }
 
@@ -118,11 +96,9 @@ impl Source for StopTimes {
     fn load<F: Files>(
         alloc: Global,
         files: &mut F,
-        folder: &str,
-        limit: usize,
-        awaited: usize,
+        from: Folder<'_>,
     ) -> Result<StopTimes, LoadFault> {
-        let visits: Visits = load_table(alloc, files, folder, limit, awaited)?;
+        let visits = Visits::load(alloc, files, from)?;
         Ok(visits.settled(alloc)?)
     }
 }
@@ -134,43 +110,10 @@ impl<A: Source + Drop, B: Source + Drop> Source for (A, B) {
 
     ghost read = { λ pair. A.read pair.0 × B.read pair.1 };
 
-    fn load<F: Files>(
-        alloc: Global,
-        files: &mut F,
-        folder: &str,
-        limit: usize,
-        awaited: usize,
-    ) -> Result<(A, B), LoadFault> {
-        let first = A::load(alloc, files, folder, limit, awaited)?;
-        let second = B::load(alloc, files, folder, limit, first.ids())?;
+    fn load<F: Files>(alloc: Global, files: &mut F, from: Folder<'_>) -> Result<(A, B), LoadFault> {
+        let first = A::load(alloc, files, from)?;
+        let awaited = first.known_ids();
+        let second = B::load(alloc, files, Folder { awaited, ..from })?;
         Ok((first, second))
-    }
-}
-
-/// Reads the file of a table from a folder.
-pub(crate) fn load_table<F: Files, T: Table + Drop>(
-    alloc: Global,
-    files: &mut F,
-    folder: &str,
-    limit: usize,
-    awaited: usize,
-) -> Result<T, LoadFault>
-    ensures table { IfSome (contents_told (F.state files.old).told)
-        (λ contents. Answers (table_of_file T.format limit folder.now contents) result) }
-    ensures read { IfOk result (IsRead T.format) }
-    ensures contents { contents_told (F.state files.new).told ≡ contents_told (F.state files.old).told }
-    ensures later { (F.state files.old).faults ≤ (F.state files.new).faults }
-    ensures cause { (file : File) → result ≡ Err (fault.ReadFault file)
-        → Rose (F.state files.old).faults (F.state files.new).faults }
-    ensures asked { (file : File) → result ≡ Err (fault.ReadFault file)
-        → IfSome (F.state files.new).asked (λ last. last ≡ path folder.now file) }
-{
-    let name = path(alloc, folder, T::file())?;
-    match read_whole(alloc, files, name.as_str(), limit) {
-        Ok(bytes) => read_table(alloc, bytes.as_slice(), awaited),
-        Err(ReadEnd::Absent) => absent_table(alloc),
-        Err(ReadEnd::TooLarge) => Err(LoadFault::TooLarge(T::file())),
-        Err(ReadEnd::ReadFault) => Err(LoadFault::ReadFault(T::file())),
-        Err(ReadEnd::Memory) => Err(LoadFault::Memory),
     }
 }

@@ -32,7 +32,7 @@ mod visits;
 
 pub use exceptions::Exceptions;
 pub use fault::LoadFault;
-pub use folder::Source;
+pub use folder::{Folder, Source};
 pub use frequencies::Frequencies;
 pub use grouped::{Group, Grouped, Only};
 pub use laws::tables_follow_their_rows;

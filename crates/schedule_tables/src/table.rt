@@ -28,6 +28,11 @@ pub(crate) trait Table: Sized {
 
     ghost format: { Format Self.Row Self };
 
+    /// How many ids there are, 0 where a table after it has others. That may save memory, and no clause speaks of it.
+    fn ids(&self) -> usize {
+        0
+    }
+
     /// The file that fills the table.
     fn file() -> File
         ensures { result ≡ format.file };

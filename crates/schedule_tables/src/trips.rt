@@ -63,6 +63,10 @@ impl Table for Trips {
 
     ghost format = { trips };
 
+    fn ids(&self) -> usize {
+        self.len()
+    }
+
     fn file() -> File {
         Trip::file()
     }

@@ -21,8 +21,8 @@ use rt_day::Day;
 use rt_outside::Files;
 use schedule_rows::{Agency, Frequency, Route, ServiceRow, Stop, Trip};
 use schedule_tables::{
-    Exceptions, Frequencies, Grouped, LoadFault, Numbered, Only, Source, StopTime, StopTimes,
-    TripTimes, Trips,
+    Exceptions, Folder, Frequencies, Grouped, LoadFault, Numbered, Only, Source, StopTime,
+    StopTimes, TripTimes, Trips,
 };
 use std::alloc::{AllocError, Global};
 
@@ -153,7 +153,12 @@ impl Timetable {
         ensures asked { (file : File) → result ≡ Err (fault.ReadFault file)
             → IfSome (F.state files.new).asked (λ last. last ≡ path folder.now file) }
     {
-        let loaded = Loaded::load(alloc, files, folder, LIMIT, 0)?;
+        let from = Folder {
+            name: folder,
+            limit: LIMIT,
+            awaited: 0,
+        };
+        let loaded = Loaded::load(alloc, files, from)?;
         Ok(Timetable::with_tables(alloc, loaded)?)
     }
 
