@@ -185,16 +185,21 @@ fn meet(room: &Room, kept: &Kept, place: usize, key: &EntityKey, met: &mut Vec<b
     }
 }
 
-/// Puts an entity to those that are new or have other bytes, if it is one.
-fn put_if(fresh: &mut Fresh, other: bool, place: usize, key: EntityKey) -> Result<(), AllocError>
+/// Puts an entity to those that are new or have other bytes, if it is one, and else gives its key back.
+fn put_if(
+    fresh: &mut Fresh,
+    other: bool,
+    place: usize,
+    key: EntityKey,
+) -> Result<Option<EntityKey>, AllocError>
     ensures places { OnOk result (fresh.new.places ≡ (if other then fresh.old.places ++ place ∷ [] else fresh.old.places)) }
     ensures keys { OnOk result (fresh.new.keys ≡ (if other then fresh.old.keys ++ key ∷ [] else fresh.old.keys)) }
 {
     if other {
         put_fresh(fresh, place, key)?;
-        return Ok(());
+        return Ok(None);
     }
-    Ok(())
+    Ok(Some(key))
 }
 
 /// Whether what is held at a place was met.
@@ -269,10 +274,11 @@ fn find_all(
     ensures gone { IfOk result (λ gone. gone ≡ gone_keys room.now.feed (Some room.now.bytes) kept.now) }
 {
     let mut seen = none_seen(alloc, room.kept.len())?;
+    let mut spare = None;
     for place in 0..kept.len() {
-        let mut key = first_key(alloc, room.feed, kept, place)?;
+        let mut key = first_key(alloc, room.feed, kept, place, spare)?;
         let other = meet_next(alloc, room, kept, place, &mut key, &mut seen)?;
-        put_if(fresh, other, place, key)?;
+        spare = put_if(fresh, other, place, key)?;
     }
     let gone = not_met(alloc, room, seen.met.as_slice())?;
     Ok(gone)

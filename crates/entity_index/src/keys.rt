@@ -37,21 +37,31 @@ pub(crate) fn keys_by_place(
     Ok(keys)
 }
 
-/// The key of an entity of a snapshot as if it were the first one of its id.
+/// The key of an entity of a snapshot as if it were the first one of its id, in the memory of one that isn't needed any more.
 pub(crate) fn first_key(
     alloc: Global,
     feed: u8,
     kept: &Kept,
     place: usize,
+    spare: Option<EntityKey>,
 ) -> Result<EntityKey, AllocError>
     requires { place < length (entity_payloads kept.now) }
     ensures { IfOk result (λ key. key ≡ first_key feed (id_of (get_or (entity_payloads kept.now) place []))) }
 {
-    Ok(EntityKey {
-        feed,
-        id: EntityId::of(alloc, kept.entity_id(place))?,
-        occurrence: 0,
-    })
+    let id = kept.entity_id(place);
+    match spare {
+        Some(mut key) => {
+            key.feed = feed;
+            key.id.set(alloc, id)?;
+            key.occurrence = 0;
+            Ok(key)
+        }
+        None => Ok(EntityKey {
+            feed,
+            id: EntityId::of(alloc, id)?,
+            occurrence: 0,
+        }),
+    }
 }
 
 /// No id was counted.

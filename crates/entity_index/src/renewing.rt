@@ -108,31 +108,31 @@ fn seat_first(
     }
 }
 
-/// Seats an entity, whose key is given as that of the first one of its id, and tells how many with the same id stand before it.
+/// Seats an entity, whose key is given as that of the first one of its id, and tells how many with the same id stand before it. The key is of no
+/// further use.
 fn seat_next(
     alloc: Global,
     entries: &mut BTreeMap<EntityKey, Seat>,
-    first: EntityKey,
+    first: &mut EntityKey,
     place: usize,
     phase: bool,
     counts: &mut BTreeMap<String, u32>,
 ) -> Result<u32, AllocError>
-    requires { first.occurrence ≡ 0 }
-    ensures occurrence { IfOk result (λ k. (n : ℕ) → IsTally (phase_at phase (at_key first entries.old.entries)) n (count_in counts.old first.id) → k ≡ n) }
-    ensures seats { OnOk result ((n : ℕ) → IsTally (phase_at phase (at_key first entries.old.entries)) n (count_in counts.old first.id) →
-        (k : Key) → at_key k entries.new.entries ≡ seat_one phase (record first { occurrence = n }, place) (λ q. at_key q entries.old.entries) k) }
-    ensures here { OnOk result ((n : ℕ) → IsTally (phase_at phase (at_key first entries.old.entries)) n (count_in counts.old first.id) →
-        IsTally (came_then (phase_at phase (at_key first entries.old.entries))) (n + 1) (count_in counts.new first.id)) }
-    ensures others { OnOk result ((other : List ℕ) → bytes_eq first.id other ≡ false → count_in counts.new other ≡ count_in counts.old other) }
+    requires { first.old.occurrence ≡ 0 }
+    ensures occurrence { IfOk result (λ k. (n : ℕ) → IsTally (phase_at phase (at_key first.old entries.old.entries)) n (count_in counts.old first.old.id) → k ≡ n) }
+    ensures seats { OnOk result ((n : ℕ) → IsTally (phase_at phase (at_key first.old entries.old.entries)) n (count_in counts.old first.old.id) →
+        (k : Key) → at_key k entries.new.entries ≡ seat_one phase (record first.old { occurrence = n }, place) (λ q. at_key q entries.old.entries) k) }
+    ensures here { OnOk result ((n : ℕ) → IsTally (phase_at phase (at_key first.old entries.old.entries)) n (count_in counts.old first.old.id) →
+        IsTally (came_then (phase_at phase (at_key first.old entries.old.entries))) (n + 1) (count_in counts.new first.old.id)) }
+    ensures others { OnOk result ((other : List ℕ) → bytes_eq first.old.id other ≡ false → count_in counts.new other ≡ count_in counts.old other) }
 {
-    let came = seat_first(entries, &first, place, phase);
+    let came = seat_first(entries, first, place, phase);
     let occurrence = next_occurrence(alloc, counts, first.id.as_str(), came)?;
     match came {
         Some(false) => Ok(occurrence),
         _ => {
-            let mut key = first;
-            key.occurrence = occurrence;
-            seat_one(entries, &key, place, phase);
+            first.occurrence = occurrence;
+            seat_one(entries, first, place, phase);
             Ok(occurrence)
         }
     }
@@ -152,10 +152,12 @@ fn seat_all(
 {
     let mut counts = none_counted(alloc);
     let mut occurrences = Vec::new(alloc);
+    let mut spare = None;
     for place in 0..kept.len() {
-        let first = first_key(alloc, feed, kept, place)?;
-        let occurrence = seat_next(alloc, entries, first, place, phase, &mut counts)?;
+        let mut first = first_key(alloc, feed, kept, place, spare)?;
+        let occurrence = seat_next(alloc, entries, &mut first, place, phase, &mut counts)?;
         occurrences.push(occurrence)?;
+        spare = Some(first);
     }
     Ok(occurrences)
 }

@@ -19,6 +19,7 @@ pub mod Parts
 pub mod Counts
 pub mod Pairs
 pub mod Peaks
+pub mod EntityIds
 pub mod Ids
 pub mod Answers
 pub mod Groups

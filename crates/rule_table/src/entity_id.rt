@@ -1,20 +1,59 @@
 //! Ids of entities.
-ghost use Rattle.std.specs.Prelude.{◌≡◌, IfOk, Some, bytes_eq};
+ghost use Rattle.std.specs.Prelude.{◌≡◌, IfOk, OnOk, Some, bytes_eq};
 ghost use Rattle.std.specs.Ordering.{nat_cmp};
 ghost use Rattle.std.specs.Cmp.{partial_equiv_from_equiv};
 ghost use Rattle.std.specs.Cmp.Lexicographic.{slice_cmp, nat_list_eq_equiv, nat_list_cmp_total, texts_ties, texts_po};
 ghost use Rattle.std.proofs.Common.{rules};
+ghost use Rattle.rule_table.specs.EntityIds.{words_of};
 
+use arrayvec::ArrayString;
 use feed_values::Text;
 use std::alloc::{AllocError, Global};
 use std::cmp::Ordering;
 use std::marker::Model;
 use std::rc::Rc;
 
+/// The words of an id. Short ones take no memory but that which copies of the id share.
+#[derive(Drop)]
+enum Words {
+    Short(ArrayString<24>),
+    Long(Text),
+}
+
+impl Words {
+    fn of(alloc: Global, words: &str) -> Result<Words, AllocError>
+        ensures { IfOk result (λ held. words_of held ≡ words.now) }
+    {
+        match ArrayString::from(words) {
+            Ok(short) => Ok(Words::Short(short)),
+            Err(_) => Ok(Words::Long(Text::of(alloc, words)?)),
+        }
+    }
+
+    fn as_str(&self) -> &str
+        ensures { result.now ≡ words_of self.now }
+    {
+        match self {
+            Words::Short(short) => short.as_str(),
+            Words::Long(text) => text.as_str(),
+        }
+    }
+}
+
+/// Words that copies share.
+fn shared(alloc: Global, words: Words) -> Result<Rc<Words>, AllocError>
+    ensures { IfOk result (λ held. held.value ≡ words) }
+{
+    match Rc::new(alloc, words) {
+        Ok(words) => Ok(words),
+        Err(_) => Err(AllocError),
+    }
+}
+
 /// An entity's id. A copy takes no memory of its own. Ids are ordered by their bytes.
 #[derive(Drop)]
 pub struct EntityId {
-    text: Rc<Text>,
+    words: Rc<Words>,
 }
 
 impl Model for EntityId {
@@ -22,7 +61,9 @@ impl Model for EntityId {
 
     ghost Value = { List ℕ };
 
-    ghost view = { λ i. i.text.value };
+    ghost use Rattle.rule_table.specs.EntityIds.{words_of};
+
+    ghost view = { λ i. words_of i.words.value };
 }
 
 impl EntityId {
@@ -30,17 +71,33 @@ impl EntityId {
     pub fn of(alloc: Global, words: &str) -> Result<EntityId, AllocError>
         ensures { IfOk result (λ id. id ≡ words.now) }
     {
-        let words = Text::of(alloc, words)?;
-        match Rc::new(alloc, words) {
-            Ok(text) => Ok(EntityId { text }),
-            Err(_) => Err(AllocError),
-        }
+        let words = Words::of(alloc, words)?;
+        Ok(EntityId {
+            words: shared(alloc, words)?,
+        })
     }
 
     pub fn as_str(&self) -> &str
         ensures { result.now ≡ self.now }
     {
-        self.text.as_ref().as_str()
+        self.words.as_ref().as_str()
+    }
+
+    /// Has these words in the place of its own, in the same memory where no copy holds it.
+    pub fn set(&mut self, alloc: Global, words: &str) -> Result<(), AllocError>
+        ensures { OnOk result (self.new ≡ words.now) }
+    {
+        let words = Words::of(alloc, words)?;
+        match Rc::get_mut(&mut self.words) {
+            Some(held) => {
+                *held = words;
+                Ok(())
+            }
+            None => {
+                self.words = shared(alloc, words)?;
+                Ok(())
+            }
+        }
     }
 
     /// The same id. It fails only where 2^64 copies are held.
@@ -48,7 +105,7 @@ impl EntityId {
         ensures { IfOk result (λ copy. copy ≡ self.now) }
     {
         Ok(EntityId {
-            text: self.text.clone()?,
+            words: self.words.clone()?,
         })
     }
 }

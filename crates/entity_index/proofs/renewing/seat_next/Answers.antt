@@ -9,7 +9,7 @@ use Rattle.entity_index.proofs.renewing.seat_next.Goals as goal
 
 pub returns-in-Some-false-clause-occurrence : goal.returns-in-Some-false-clause-occurrence
 returns-in-Some-false-clause-occurrence c = λ n t.
-    let first = c.args.first in
+    let first = c.args.first.now in
     let old = c.args.counts.now in
     let came = c.seat_first-came.ensures.came in
     let tally = λ (n : ℕ) (t : IsTally (phase_at c.args.phase (at_key first c.args.entries.now.entries)) n (count_in old first.id)).
@@ -20,12 +20,12 @@ pub returns-in-Some-false-clause-seats : goal.returns-in-Some-false-clause-seats
 returns-in-Some-false-clause-seats c = λ n t k.
     let under = λ (q : EntityKey). at_key q c.args.entries.now.entries in
     let at = sym (c.in-Some-false.is ∙ ap (λ (b : Bool). Some b) c.in-Some-false.field-0-test) ∙ c.seat_first-came.ensures.came in
-    let none = subst (λ o. IsTally o n (count_in c.args.counts.now c.args.first.id)) (sym at) t in
-    c.seat_first-came.ensures.seats k ∙ first_seated c.args.phase c.args.first c.args.place n c.requires under at none.0 k
+    let none = subst (λ o. IsTally o n (count_in c.args.counts.now c.args.first.now.id)) (sym at) t in
+    c.seat_first-came.ensures.seats k ∙ first_seated c.args.phase c.args.first.now c.args.place n c.requires under at none.0 k
 
 pub returns-in-Some-false-clause-here : goal.returns-in-Some-false-clause-here
 returns-in-Some-false-clause-here c = λ n t.
-    let first = c.args.first in
+    let first = c.args.first.now in
     let old = c.args.counts.now in
     let came = c.seat_first-came.ensures.came in
     let tally = λ (n : ℕ) (t : IsTally (phase_at c.args.phase (at_key first c.args.entries.now.entries)) n (count_in old first.id)).
@@ -38,7 +38,7 @@ returns-in-Some-false-clause-others c = λ other h. c.in_ok-occurrence.ensures.o
 
 pub returns-in_default-clause-occurrence : goal.returns-in_default-clause-occurrence
 returns-in_default-clause-occurrence c = λ n t.
-    let first = c.args.first in
+    let first = c.args.first.now in
     let old = c.args.counts.now in
     let came = c.seat_first-came.ensures.came in
     let tally = λ (n : ℕ) (t : IsTally (phase_at c.args.phase (at_key first c.args.entries.now.entries)) n (count_in old first.id)).
@@ -47,7 +47,7 @@ returns-in_default-clause-occurrence c = λ n t.
 
 pub returns-in_default-clause-seats : goal.returns-in_default-clause-seats
 returns-in_default-clause-seats c = λ n t k.
-    let first = c.args.first in
+    let first = c.args.first.now in
     let old = c.args.counts.now in
     let came = c.seat_first-came.ensures.came in
     let tally = λ (n : ℕ) (t : IsTally (phase_at c.args.phase (at_key first c.args.entries.now.entries)) n (count_in old first.id)).
@@ -59,7 +59,7 @@ returns-in_default-clause-seats c = λ n t k.
 
 pub returns-in_default-clause-here : goal.returns-in_default-clause-here
 returns-in_default-clause-here c = λ n t.
-    let first = c.args.first in
+    let first = c.args.first.now in
     let old = c.args.counts.now in
     let came = c.seat_first-came.ensures.came in
     let tally = λ (n : ℕ) (t : IsTally (phase_at c.args.phase (at_key first c.args.entries.now.entries)) n (count_in old first.id)).
