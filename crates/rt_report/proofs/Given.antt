@@ -29,6 +29,11 @@ pub last : {E A : Type 0} (r : Result (Unit {0}) E) (a b : Written) (t : Token) 
 last (Ok x) a b t w f = f (record { before_is = w.room.0; tokens_are = w.ok })
 last (Err e) a b t w f = tt
 
+-- or some at the end
+pub ending : {E A B : Type 0} (r : Result (Unit {0}) E) → OnOk r A → (A → B) → OnOk r B
+ending (Ok x) a f = f a
+ending (Err e) a f = tt
+
 -- a value's tokens, in a writer that began with nothing, are its text
 pub text_is : (d : Data) (first second : Written) (bytes : List ℕ) → first.before ≡ [] → first.tokens ≡ [] → Adds first second (tokens_of d) → bytes ≡ second.before ++ print second.tokens → bytes ≡ compact_text d
 text_is d first second bytes before tokens adds text =

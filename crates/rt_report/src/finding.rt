@@ -1,20 +1,21 @@
 //! The line of a finding.
-ghost use Rattle.std.specs.Prelude.{◌≡◌, [], ◌∷◌, ◌++◌, IfOk, OnOk, codes, true};
+ghost use Rattle.std.specs.Prelude.{◌≡◌, [], ◌∷◌, ◌++◌, IfOk, OnOk, codes, decimal, true};
 ghost use Rattle.std.specs.List.{list_all};
 ghost use Rattle.json.specs.Token as token;
 ghost use Rattle.serde_json.specs.Data.{number};
 ghost use Rattle.serde_json.specs.Find.{of_integer};
 ghost use Rattle.serde_json.specs.Written.{compact_text};
+ghost use Rattle.feed_values.specs.Cells.{path_text};
 ghost use Rattle.std.specs.Str.{IsUtf8};
 ghost use Rattle.rule_table.specs.Asked.{in_range};
+ghost use Rattle.rule_table.specs.Rules.{rule_name, level};
 ghost use Rattle.snapshot_lines.specs.Lines.{line_of};
-ghost use Rattle.rt_report.specs.Findings.{line_name, cell_data, fact_data, facts_data, entity_finding, finding_data};
-ghost use Rattle.rule_table.specs.declared.place.Place.TheVariants as place;
-ghost use Rattle.rt_report.specs.Tokens.{Adds, tokens_of, fact_tokens, head_finding};
+ghost use Rattle.rt_report.specs.Findings.{line_name, cell_data, fact_data, facts_data, finding_data};
+ghost use Rattle.rt_report.specs.Tokens.{Adds, tokens_of, fact_tokens};
 
 use crate::asked::{ask_name, push_keys};
 use crate::tokens::{push_count, push_text};
-use feed_values::{CellValue, Path, Slot};
+use feed_values::{CellValue, Path};
 use json::Writer;
 use rule_table::{EntityKey, Fact, Finding, Place, RuleId};
 use std::alloc::{AllocError, Global};
@@ -27,6 +28,15 @@ const ROOM: usize = 384;
 pub enum LineKind {
     Finding,
     Opened,
+}
+
+/// What a line tells of a finding besides its place.
+#[derive(Clone, Copy)]
+struct Told<'a> {
+    kind: LineKind,
+    rule: RuleId,
+    facts: &'a [Fact],
+    since: u64,
 }
 
 fn line_name(kind: LineKind) -> &'static str
@@ -99,140 +109,73 @@ fn push_front(alloc: Global, out: &mut Writer, facts: &[Fact]) -> Result<(), All
     out.end_array()
 }
 
-fn push_head(
-    alloc: Global,
-    out: &mut Writer,
-    facts: &[Fact],
-    feed: u8,
-    level: &str,
-    line: &str,
-    path: &str,
-    rule: &str,
-    since: u64,
-) -> Result<(), AllocError>
-    requires { list_all (λ f. in_range f.value) facts.now ≡ true }
-    ensures { OnOk result (Adds out.old out.new (tokens_of (head_finding (facts_data facts.now) feed level.now line.now path.now rule.now since))) }
+fn push_level(out: &mut Writer, told: Told<'_>) -> Result<(), AllocError>
+    ensures { OnOk result (Adds out.old out.new (token.key (codes "level") ∷ token.string (level told.entry.rule)
+        ∷ token.key (codes "line") ∷ token.string (line_name told.entry.kind) ∷ [])) }
 {
-    push_front(alloc, out, facts)?;
+    push_text(out, "level", told.rule.level())?;
+    push_text(out, "line", line_name(told.kind))
+}
+
+/// Appends the members between the facts and the path, of a finding on a header.
+fn push_on_header(out: &mut Writer, told: Told<'_>, feed: u8) -> Result<(), AllocError>
+    ensures { OnOk result (Adds out.old out.new (token.key (codes "feed") ∷ token.number (decimal feed)
+        ∷ token.key (codes "level") ∷ token.string (level told.entry.rule)
+        ∷ token.key (codes "line") ∷ token.string (line_name told.entry.kind) ∷ [])) }
+{
     push_count(out, "feed", feed as u64)?;
-    push_text(out, "level", level)?;
-    push_text(out, "line", line)?;
-    push_text(out, "path", path)?;
-    push_text(out, "rule", rule)?;
-    push_count(out, "since", since)?;
-    out.end_object()
+    push_level(out, told)
 }
 
-fn push_entity(
-    alloc: Global,
-    out: &mut Writer,
-    facts: &[Fact],
-    feed: u8,
-    id: &str,
-    level: &str,
-    line: &str,
-    occurrence: u32,
-    path: &str,
-    rule: &str,
-    since: u64,
-) -> Result<(), AllocError>
-    requires { list_all (λ f. in_range f.value) facts.now ≡ true }
-    ensures { OnOk result (Adds out.old out.new (tokens_of (entity_finding (facts_data facts.now) feed id.now level.now line.now occurrence path.now rule.now since))) }
+/// The same at an entity.
+fn push_at_entity(out: &mut Writer, told: Told<'_>, key: &EntityKey) -> Result<(), AllocError>
+    ensures { OnOk result (Adds out.old out.new (token.key (codes "feed") ∷ token.number (decimal key.now.feed)
+        ∷ token.key (codes "id") ∷ token.string key.now.id
+        ∷ token.key (codes "level") ∷ token.string (level told.entry.rule)
+        ∷ token.key (codes "line") ∷ token.string (line_name told.entry.kind)
+        ∷ token.key (codes "occurrence") ∷ token.number (decimal key.now.occurrence) ∷ [])) }
 {
-    push_front(alloc, out, facts)?;
-    push_count(out, "feed", feed as u64)?;
-    push_text(out, "id", id)?;
-    push_text(out, "level", level)?;
-    push_text(out, "line", line)?;
-    push_count(out, "occurrence", occurrence as u64)?;
-    push_text(out, "path", path)?;
-    push_text(out, "rule", rule)?;
-    push_count(out, "since", since)?;
-    out.end_object()
+    push_count(out, "feed", key.feed as u64)?;
+    push_text(out, "id", key.id.as_str())?;
+    push_level(out, told)?;
+    push_count(out, "occurrence", key.occurrence as u64)
 }
 
-/// Appends a finding at a place on a header.
-fn push_on_header(
-    alloc: Global,
-    out: &mut Writer,
-    kind: LineKind,
-    rule: RuleId,
-    facts: &[Fact],
-    feed: u8,
-    slot: Slot,
-    since: u64,
-) -> Result<(), AllocError>
-    requires { list_all (λ f. in_range f.value) facts.now ≡ true }
-    ensures { OnOk result (Adds out.old out.new (tokens_of (finding_data kind (record { rule = rule; place = place.Head feed slot; facts = facts.now }) since))) }
-{
-    let path = Path { slot, index: 0 };
-    let path = path.text(alloc)?;
-    let level = rule.level();
-    let line = line_name(kind);
-    push_head(
-        alloc,
-        out,
-        facts,
-        feed,
-        level,
-        line,
-        path.as_str(),
-        rule.name(),
-        since,
-    )
-}
-
-/// The same at a place of an entity.
-fn push_at_entity(
-    alloc: Global,
-    out: &mut Writer,
-    kind: LineKind,
-    rule: RuleId,
-    facts: &[Fact],
-    key: &EntityKey,
-    path: Path,
-    since: u64,
-) -> Result<(), AllocError>
-    requires { list_all (λ f. in_range f.value) facts.now ≡ true }
-    ensures { OnOk result (Adds out.old out.new (tokens_of (finding_data kind (record { rule = rule; place = place.Entity key.now path; facts = facts.now }) since))) }
+/// Ends a finding's object by its path, its rule, and since when.
+fn push_back(alloc: Global, out: &mut Writer, told: Told<'_>, path: Path) -> Result<(), AllocError>
+    ensures { OnOk result (Adds out.old out.new (token.key (codes "path") ∷ token.string (path_text path.slot path.index)
+        ∷ token.key (codes "rule") ∷ token.string (rule_name told.entry.rule)
+        ∷ token.key (codes "since") ∷ token.number (decimal told.entry.since) ∷ token.end_object ∷ [])) }
 {
     let path = path.text(alloc)?;
-    let id = key.id.as_str();
-    let level = rule.level();
-    let line = line_name(kind);
-    push_entity(
-        alloc,
-        out,
-        facts,
-        key.feed,
-        id,
-        level,
-        line,
-        key.occurrence,
-        path.as_str(),
-        rule.name(),
-        since,
-    )
+    push_text(out, "path", path.as_str())?;
+    push_text(out, "rule", told.rule.name())?;
+    push_count(out, "since", told.since)?;
+    out.end_object()
 }
 
 fn push_finding(
     alloc: Global,
     out: &mut Writer,
-    kind: LineKind,
-    rule: RuleId,
+    told: Told<'_>,
     place: &Place,
-    facts: &[Fact],
-    since: u64,
 ) -> Result<(), AllocError>
-    requires { list_all (λ f. in_range f.value) facts.now ≡ true }
-    ensures { OnOk result (Adds out.old out.new (tokens_of (finding_data kind (record { rule = rule; place = place.now; facts = facts.now }) since))) }
+    requires { list_all (λ f. in_range f.value) told.facts.now ≡ true }
+    ensures { OnOk result (Adds out.old out.new (tokens_of (finding_data told.entry.kind (record { rule = told.entry.rule; place = place.now; facts = told.entry.facts.now }) told.entry.since))) }
 {
+    push_front(alloc, out, told.facts)?;
     match place {
         Place::Head(feed, slot) => {
-            push_on_header(alloc, out, kind, rule, facts, *feed, *slot, since)
+            let path = Path {
+                slot: *slot,
+                index: 0,
+            };
+            push_on_header(out, told, *feed)?;
+            push_back(alloc, out, told, path)
         }
         Place::Entity(key, path) => {
-            push_at_entity(alloc, out, kind, rule, facts, key, *path, since)
+            push_at_entity(out, told, key)?;
+            push_back(alloc, out, told, *path)
         }
     }
 }
@@ -252,7 +195,13 @@ pub fn finding_text(
     ensures utf8 { IfOk result (λ bytes. IsUtf8 bytes.items) }
 {
     let mut out = Writer::new(Vec::with_capacity(alloc, ROOM)?);
-    push_finding(alloc, &mut out, line, rule, place, facts, since)?;
+    let told = Told {
+        kind: line,
+        rule,
+        facts,
+        since,
+    };
+    push_finding(alloc, &mut out, told, place)?;
     Ok(out.into_inner())
 }
 
