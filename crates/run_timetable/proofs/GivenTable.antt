@@ -1,9 +1,10 @@
 -- The timetable that a command asks for, and a report with it.
-use Rattle.std.proofs.Common.{◌≡◌, ℕ, List, ◌++◌, append_assoc, codes, Bool, true, false, cond, refl, sym, ap, ◌∙◌, subst, Some, None, IfSome, Ok, Err}
+use Rattle.std.proofs.Common.{◌≡◌, ℕ, List, ◌∷◌, ◌++◌, append_assoc, codes, Bool, true, false, cond, refl, sym, ap, ◌∙◌, subst, Some, None, IfSome, Ok, Err}
 use Rattle.std.specs.declared.option.Option.{Option}
 use Rattle.rt_outside.specs.Causes.{Rose}
 use Rattle.rt_outside.specs.Sink.{SinkState}
 use Rattle.rt_outside.specs.Store.{Contents, FilesState, contents_told}
+use Rattle.timetable.specs.Faults.{in_file}
 use Rattle.timetable.specs.Folders.{path}
 use Rattle.timetable.specs.Lookups.{is_present, tables_in}
 use Rattle.timetable.specs.Timetables.{Tables, tables_of}
@@ -22,7 +23,7 @@ use Rattle.run_base.specs.Report.{Report, refused_input}
 use Rattle.run_base.proofs.Carried.{carried_input, input_more}
 use Rattle.run_base.proofs.Chosen.{carried_within, each}
 use Rattle.run_base.proofs.Told.{error_text_more}
-use Rattle.run_timetable.specs.Timetables.{IsGiven, IsLoadText, IsTableFile, TellsLoadFault, accepted_tables, at_file, refusal_of, refusal_text, tables_had, timetable_of, timetable_refusal, unless_refused, with_timetable, work_unless_refused, work_with_timetable}
+use Rattle.run_timetable.specs.Timetables.{IsGiven, IsLoadText, IsTableFile, TellsLoadFault, accepted_tables, in_folder, refusal_of, refusal_text, tables_had, timetable_of, timetable_refusal, unless_refused, why_refused, with_timetable, work_unless_refused, work_with_timetable}
 
 none_refused : (contents : Contents) → timetable_refusal None contents ≡ None
 unfolding timetable_refusal
@@ -60,16 +61,31 @@ folder_given (Some c) folder t e is = (accepted folder c (tables_in t) is, held 
 
 -- ---- one that isn't loaded
 -- a file and what is wrong there, as it is told on the error stream
-at_file_told : (folder : List ℕ) (file : File) (why : List ℕ) → refused_text (path folder file) why ≡ codes "refused: " ++ at_file folder file why ++ codes "\n"
-at_file_told folder file why = simp append_assoc
+in_file_told : (folder : List ℕ) (file : File) (why : List ℕ) → refused_text (path folder file) why ≡ codes "refused: " ++ (folder ++ 47 ∷ in_file file why) ++ codes "\n"
+in_file_told folder file why = simp append_assoc
+
+-- a fault that is none of reading or memory is one of a file of the folder
+pub refused_in : (folder : List ℕ) (fault : LoadFault) → ((file : File) → fault ≡ load.ReadFault file → ⊥) → (fault ≡ load.Memory → ⊥) →
+    in_folder folder fault ≡ why_refused folder fault
+refused_in folder fault read memory = by fault refl
+  where
+    by : (f : LoadFault) → fault ≡ f → in_folder folder f ≡ why_refused folder f
+    by (load.MissingFile file) is = refl
+    by (load.MissingColumn file column) is = refl
+    by (load.BadText file row) is = refl
+    by (load.BadValue file row column) is = refl
+    by (load.RepeatedKey file row) is = refl
+    by (load.TooLarge file) is = refl
+    by (load.ReadFault file) is = absurd (read file is)
+    by load.Memory is = absurd (memory is)
 
 -- the text of a refused one names a file of its folder
 load_text : (folder : List ℕ) (fault : LoadFault) → ((file : File) → fault ≡ load.ReadFault file → ⊥) → (fault ≡ load.Memory → ⊥) →
     IsErrorText (IsTableFile (Some folder)) (refusal_text folder fault)
 load_text folder fault read memory = by fault refl
   where
-    at : (file : File) (why : List ℕ) → IsErrorText (IsTableFile (Some folder)) (codes "refused: " ++ at_file folder file why ++ codes "\n")
-    at file why = subst (IsErrorText (IsTableFile (Some folder))) (at_file_told folder file why) (says_refused (path folder file) why (file, refl))
+    at : (file : File) (why : List ℕ) → IsErrorText (IsTableFile (Some folder)) (codes "refused: " ++ (folder ++ 47 ∷ in_file file why) ++ codes "\n")
+    at file why = subst (IsErrorText (IsTableFile (Some folder))) (in_file_told folder file why) (says_refused (path folder file) why (file, refl))
 
     by : (f : LoadFault) → fault ≡ f → IsErrorText (IsTableFile (Some folder)) (refusal_text folder f)
     by (load.MissingFile file) is = at file _

@@ -1,12 +1,12 @@
 -- The timetable that a command asks for, what is told of one that is refused, and a report with it. (This profile.)
-use Rattle.std.specs.Prelude.{◌≡◌, ℕ, List, [], ◌++◌, codes, decimal, if◌then◌else◌, Option, Some, None, IfSome, Result, Ok, Err}
+use Rattle.std.specs.Prelude.{◌≡◌, ℕ, List, [], ◌∷◌, ◌++◌, codes, if◌then◌else◌, Option, Some, None, IfSome, Result, Ok, Err}
 use Rattle.rt_outside.specs.Store.{Contents}
-use Rattle.timetable.specs.Columns.{name_of}
+use Rattle.timetable.specs.Faults.{fault_text}
 use Rattle.timetable.specs.Folders.{path}
 use Rattle.timetable.specs.Lookups.{is_present, tables_in}
 use Rattle.timetable.specs.Timetables.{Tables, tables_of}
 use Rattle.timetable.specs.declared.LoadFault.{LoadFault}
-use Rattle.timetable.specs.declared.LoadFault.TheVariants.{MissingFile, MissingColumn, BadText, BadValue, RepeatedKey, TooLarge, ReadFault, Memory}
+use Rattle.timetable.specs.declared.LoadFault.TheVariants.{ReadFault, Memory}
 use Rattle.timetable.specs.declared.File.{File}
 use Rattle.timetable.specs.declared.timetable.Timetable.{Timetable}
 use Rattle.run_base.specs.declared.input_fault.InputFault.{InputFault}
@@ -21,24 +21,15 @@ IsTableFile None name = ⊥
 IsTableFile (Some folder) name = (file : File) × (name ≡ path folder file)
 
 -- ---- what is told of one that is refused
--- what is wrong in a row of a file, where the header is row 1
-abbrev pub in_row : ℕ → List ℕ → List ℕ
-in_row row why = codes "row " ++ decimal row ++ codes ": " ++ why
-
--- a file of the folder, and what is wrong there
-abbrev pub at_file : List ℕ → File → List ℕ → List ℕ
-at_file folder file why = path folder file ++ codes ": " ++ why
+-- a fault of a file of the folder
+abbrev pub in_folder : List ℕ → LoadFault → List ℕ
+in_folder folder fault = folder ++ 47 ∷ fault_text fault
 
 -- Why the timetable in a folder is refused. A failed read and want of memory are no faults of what files hold, and have texts of their own.
 abbrev pub why_refused : List ℕ → LoadFault → List ℕ
-why_refused folder (MissingFile file) = at_file folder file (codes "missing file")
-why_refused folder (MissingColumn file column) = at_file folder file (codes "missing column " ++ name_of column)
-why_refused folder (BadText file row) = at_file folder file (in_row row (codes "not text"))
-why_refused folder (BadValue file row column) = at_file folder file (in_row row (codes "bad value in " ++ name_of column))
-why_refused folder (RepeatedKey file row) = at_file folder file (in_row row (codes "repeated key"))
-why_refused folder (TooLarge file) = at_file folder file (codes "too large")
 why_refused folder (ReadFault file) = []
 why_refused folder Memory = []
+why_refused folder fault = in_folder folder fault
 
 -- as it is told on the error stream
 abbrev pub refusal_text : List ℕ → LoadFault → List ℕ

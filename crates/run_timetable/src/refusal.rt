@@ -1,6 +1,6 @@
 //! What is told of a timetable that isn't loaded.
 ghost use Rattle.std.specs.Prelude.{◌≡◌, IfOk, string_bytes};
-ghost use Rattle.run_timetable.specs.Timetables.{TellsLoadFault, refusal_text, why_refused};
+ghost use Rattle.run_timetable.specs.Timetables.{TellsLoadFault, in_folder, refusal_text, why_refused};
 
 use run_base::InputFault;
 use std::alloc::{AllocError, Global};
@@ -28,36 +28,21 @@ fn refusal_text(alloc: Global, folder: &str, fault: LoadFault) -> Result<String,
     format!(in alloc; "refused: {why}\n")
 }
 
+// A fault of a file, in its folder.
+fn in_folder(alloc: Global, folder: &str, fault: LoadFault) -> Result<String, AllocError>
+    ensures { IfOk result (λ text. string_bytes text ≡ in_folder folder.now fault) }
+{
+    let text = fault.text(alloc)?;
+    format!(in alloc; "{folder}/{text}")
+}
+
 /// Why the timetable in this folder is refused: the file, and what is wrong there. It is empty where the fault is none of its files.
+#[tactic(auto, using(crate::proofs::GivenTable::refused_in))]
 pub fn why_refused(alloc: Global, folder: &str, fault: LoadFault) -> Result<String, AllocError>
     ensures { IfOk result (λ text. string_bytes text ≡ why_refused folder.now fault) }
 {
     match fault {
-        LoadFault::MissingFile(file) => {
-            format!(in alloc; "{folder}/{}: missing file", file.name())
-        }
-        LoadFault::MissingColumn(file, column) => {
-            format!(in alloc;
-                "{folder}/{}: missing column {}",
-                file.name(),
-                column.name()
-            )
-        }
-        LoadFault::BadText(file, row) => {
-            format!(in alloc; "{folder}/{}: row {row}: not text", file.name())
-        }
-        LoadFault::BadValue(file, row, column) => {
-            format!(in alloc;
-                "{folder}/{}: row {}: bad value in {}",
-                file.name(),
-                row,
-                column.name()
-            )
-        }
-        LoadFault::RepeatedKey(file, row) => {
-            format!(in alloc; "{folder}/{}: row {row}: repeated key", file.name())
-        }
-        LoadFault::TooLarge(file) => { format!(in alloc; "{folder}/{}: too large", file.name()) }
         LoadFault::ReadFault(_) | LoadFault::Memory => Ok(String::new(alloc)),
+        _ => in_folder(alloc, folder, fault),
     }
 }

@@ -12,4 +12,5 @@ pub mod Formats
 pub mod Times
 pub mod Stops
 pub mod Folders
+pub mod Faults
 pub mod Numbers

@@ -1,7 +1,7 @@
 //! Why a timetable is refused.
 
 use schedule_rows::{Column, File};
-use std::alloc::AllocError;
+use std::alloc::{AllocError, Global};
 
 /// The first fault of a timetable.
 ///
@@ -26,6 +26,39 @@ pub enum LoadFault {
     ReadFault(File),
     /// Memory was refused.
     Memory,
+}
+
+impl LoadFault {
+    ghost use Rattle.std.specs.Prelude.{◌≡◌, IfOk, string_bytes};
+    ghost use Rattle.schedule_tables.specs.Faults.{fault_text};
+
+    /// What is wrong, as it is told: the file without its folder, and what is wrong there.
+    pub fn text(self, alloc: Global) -> Result<String, AllocError>
+        ensures { IfOk result (λ text. string_bytes text ≡ fault_text self) }
+    {
+        match self {
+            LoadFault::MissingFile(file) => format!(in alloc; "{}: missing file", file.name()),
+            LoadFault::MissingColumn(file, column) => {
+                format!(in alloc; "{}: missing column {}", file.name(), column.name())
+            }
+            LoadFault::BadText(file, row) => {
+                format!(in alloc; "{}: row {row}: not text", file.name())
+            }
+            LoadFault::BadValue(file, row, column) => {
+                format!(in alloc;
+                    "{}: row {row}: bad value in {}",
+                    file.name(),
+                    column.name()
+                )
+            }
+            LoadFault::RepeatedKey(file, row) => {
+                format!(in alloc; "{}: row {row}: repeated key", file.name())
+            }
+            LoadFault::TooLarge(file) => format!(in alloc; "{}: too large", file.name()),
+            LoadFault::ReadFault(file) => format!(in alloc; "{}: read fault", file.name()),
+            LoadFault::Memory => String::from_str(alloc, "out of memory"),
+        }
+    }
 }
 
 impl From<AllocError> for LoadFault {

@@ -7,6 +7,7 @@ pub use Rattle.schedule_tables.specs.Times
 pub use Rattle.schedule_tables.specs.Stops
 pub use Rattle.schedule_tables.specs.Formats
 pub use Rattle.schedule_tables.specs.Folders
+pub use Rattle.schedule_tables.specs.Faults
 pub use Rattle.schedule_tables.specs.Laws
 pub mod Timetables
 pub mod Lookups

@@ -5,7 +5,6 @@ use crate::lengthened::Lengthened;
 use crate::trips;
 use cases::{say, say_some, say_whether, size, word};
 use rt_outside::Files;
-use run_timetable::why_refused;
 use std::alloc::{AllocError, Global};
 use timetable::{LoadFault, Timetable};
 
@@ -41,12 +40,8 @@ fn answer_in<F: Files + Drop>(
 
 // What is told of a timetable that is refused, without its folder.
 fn say_refused(alloc: Global, fault: LoadFault, out: &mut Vec<u8>) -> Result<(), AllocError> {
-    let told = match fault {
-        LoadFault::ReadFault(file) => format!(in alloc; "{}: read fault", file.name())?,
-        _ => why_refused(alloc, "", fault)?,
-    };
-    let told = told.as_str();
-    say(out, told.strip_prefix("/").unwrap_or(told))
+    let told = fault.text(alloc)?;
+    say(out, told.as_str())
 }
 
 // The words from a place on.
