@@ -7,7 +7,7 @@ ghost use Rattle.message_rules.specs.Message.{error_rules, other_rules, message_
 
 use feed_values::Entity;
 use rt_outside::Steps;
-use rule_clear::{Listed, LocalRule};
+use rule_clear::{Listed, LocalRule, Look};
 use rule_table::{Both, EntityKey, FindingList, RuleId, Rules};
 use std::alloc::{AllocError, Global};
 use std::sync::ledger::Ledger;
@@ -51,8 +51,8 @@ pub struct MessageGroup {
 
 impl MessageGroup {
     pub fn new() -> MessageGroup {
-        let errors = Listed::within_messages(ERRORS);
-        let others = Listed::on_relationships(OTHERS);
+        let errors = Listed::new(ERRORS, Look::Soundness);
+        let others = Listed::new(OTHERS, Look::Relationships);
         MessageGroup {
             inner: Both::new(errors, others),
         }

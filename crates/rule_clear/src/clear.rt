@@ -23,14 +23,13 @@ use timetable::Timetable;
 
 /// What a look along the stop time updates of an entity is for.
 #[derive(Clone, Copy, Debug, PartialEq, Eq)]
-pub(crate) enum Look {
-    /// There is none.
-    Nothing,
-    /// Whether each is sound.
+pub enum Look {
+    /// Whether each is sound: for rules within a message.
     Soundness,
-    /// Whether each gives its schedule_relationship.
+    /// Whether each gives its schedule_relationship: for the one that wants it.
     Relationships,
-    /// Whether each keeps to the timetable, whether each gives its stop_sequence, and whether none assigns another stop.
+    /// Whether each keeps to the timetable, whether each gives its stop_sequence, and whether none assigns another stop: for rules against the
+    /// timetable.
     Timetable,
     /// All of these.
     Everything,

@@ -16,6 +16,6 @@ mod listed;
 mod local_rule;
 mod sound;
 
-pub use clear::Clear;
+pub use clear::{Clear, Look};
 pub use listed::Listed;
 pub use local_rule::{LocalAnswers, LocalRule};

@@ -23,50 +23,13 @@ pub struct Listed {
 }
 
 impl Listed {
-    pub fn new(rules: &'static [RuleId]) -> Listed
+    /// These rules, judged after a look at the stop time updates of an entity: those that it is for aren't judged at each update where all are
+    /// as they want it.
+    pub fn new(rules: &'static [RuleId], looks_for: Look) -> Listed
         requires { are_apart rules.now ≡ true }
         ensures { result.rules.now ≡ rules.now }
     {
-        Listed {
-            rules,
-            looks_for: Look::Nothing,
-        }
-    }
-
-    /// The same rules, judged after a look at whether the stop time updates of an entity are sound: those within a message
-    /// aren't judged at each one where they all are.
-    pub fn within_messages(rules: &'static [RuleId]) -> Listed
-        requires { are_apart rules.now ≡ true }
-        ensures { result.rules.now ≡ rules.now }
-    {
-        Listed {
-            rules,
-            looks_for: Look::Soundness,
-        }
-    }
-
-    /// The same rules, judged after a look at whether each stop time update of an entity gives its schedule_relationship: the
-    /// one that wants it isn't judged at each one where they all do.
-    pub fn on_relationships(rules: &'static [RuleId]) -> Listed
-        requires { are_apart rules.now ≡ true }
-        ensures { result.rules.now ≡ rules.now }
-    {
-        Listed {
-            rules,
-            looks_for: Look::Relationships,
-        }
-    }
-
-    /// The same rules, judged after a look at whether the stop time updates of an entity keep to the timetable: those against
-    /// it aren't judged at each one where they all do.
-    pub fn against_timetable(rules: &'static [RuleId]) -> Listed
-        requires { are_apart rules.now ≡ true }
-        ensures { result.rules.now ≡ rules.now }
-    {
-        Listed {
-            rules,
-            looks_for: Look::Timetable,
-        }
+        Listed { rules, looks_for }
     }
 
     /// Ticks once for each rule, as judging does, and judges none of them: for what is known to be empty.

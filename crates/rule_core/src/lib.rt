@@ -3,7 +3,7 @@
 //! (`rule_evidence`). Each is a crate of its own, and so that a crate above waits for no more than it needs, it names that one.
 #![tactic(auto)]
 
-pub use rule_clear::{Clear, Listed, LocalAnswers, LocalRule};
+pub use rule_clear::{Clear, Listed, LocalAnswers, LocalRule, Look};
 pub use rule_evidence::{
     evidence_is_among, evidence_is_found, evidence_shows, findings_are_evidence,
 };

@@ -7,7 +7,7 @@ ghost use Rattle.schedule_rules.specs.Schedule.{schedule_rules, schedule_apart};
 
 use feed_values::Entity;
 use rt_outside::Steps;
-use rule_clear::{Listed, LocalRule};
+use rule_clear::{Listed, LocalRule, Look};
 use rule_table::{EntityKey, FindingList, RuleId, Rules};
 use std::alloc::{AllocError, Global};
 use std::sync::ledger::Ledger;
@@ -45,7 +45,7 @@ impl ScheduleGroup {
     #[tactic(auto, unfolding(crate::specs::Schedule::schedule_rules))]
     pub fn new() -> ScheduleGroup {
         ScheduleGroup {
-            inner: Listed::against_timetable(RULES),
+            inner: Listed::new(RULES, Look::Timetable),
         }
     }
 }
