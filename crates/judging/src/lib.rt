@@ -15,7 +15,7 @@ mod ruling;
 
 pub use header_rules::HeaderRules;
 pub use laws::one_snapshot_is_its_history;
-pub use marking::{Beside, finding_at, marks_at};
+pub use marking::{Setting, finding_at, marks_at};
 pub use message_rules::MessageGroup;
 pub use rows::rows_of;
 pub use rule_table::count_one;

@@ -133,7 +133,7 @@ fn tick_others<L: Ledger>(judged: usize, tests: &mut Steps<L>)
 
 /// What the entities of the first snapshot of a feed are judged beside.
 #[derive(Clone, Copy)]
-pub struct Beside<'a, P: PairView> {
+pub struct Setting<'a, P: PairView> {
     pub table: &'a Timetable,
     /// The pairing rows of all entities.
     pub view: &'a P,
@@ -144,37 +144,37 @@ pub struct Beside<'a, P: PairView> {
 
 /// What all rules ask at an entity of the first snapshot of a feed, before which no header stands.
 fn answers_at<'a, P: PairView>(
-    beside: &Beside<'a, P>,
+    setting: &Setting<'a, P>,
     key: &'a EntityKey,
     entity: &'a Entity,
 ) -> EntityAnswers<'a, P>
-    ensures table { result.local.table.now ≡ beside.now.table.now }
-    ensures view { result.pairs.view.now ≡ beside.now.view.now }
-    ensures header { result.heads.now.now ≡ beside.now.header.now }
+    ensures table { result.local.table.now ≡ setting.now.table.now }
+    ensures view { result.pairs.view.now ≡ setting.now.view.now }
+    ensures header { result.heads.now.now ≡ setting.now.header.now }
     ensures before { result.heads.before ≡ None }
     ensures changed { result.heads.changed ≡ false }
-    ensures moment { result.heads.moment ≡ beside.now.moment }
+    ensures moment { result.heads.moment ≡ setting.now.moment }
     ensures key { result.local.key.now ≡ key.now }
     ensures entity { result.local.entity.now ≡ entity.now }
     ensures answers { whole_answer (tables_of result.local.table.now) (rows_alone (P.rows result.pairs.view.now))
         (record { header = feed_header_value result.heads.now.now; previous = option_map feed_header_value (option_copied result.heads.before); changed = result.heads.changed; moment = result.heads.moment })
         result.local.key.now (entity_value result.local.entity.now)
-        ≡ first_answer (tables_of beside.now.table.now) (P.rows beside.now.view.now) (feed_header_value beside.now.header.now) beside.now.moment key.now (entity_value entity.now) }
+        ≡ first_answer (tables_of setting.now.table.now) (P.rows setting.now.view.now) (feed_header_value setting.now.header.now) setting.now.moment key.now (entity_value entity.now) }
 {
     EntityAnswers {
         local: LocalAnswers {
-            table: beside.table,
+            table: setting.table,
             key,
             entity,
         },
         heads: HeadAnswers {
-            now: beside.header,
+            now: setting.header,
             before: None,
             changed: false,
-            moment: beside.moment,
+            moment: setting.moment,
         },
         pairs: PairAnswers {
-            view: beside.view,
+            view: setting.view,
             key,
             entity,
         },
@@ -186,20 +186,20 @@ fn answers_at<'a, P: PairView>(
 /// memory it has ticked at most that often.
 pub fn marks_at<P: PairView, L: Ledger>(
     alloc: Global,
-    beside: &Beside<'_, P>,
+    setting: &Setting<'_, P>,
     key: &EntityKey,
     entity: &Entity,
     tests: &mut Steps<L>,
 ) -> Result<Vec<Mark>, AllocError>
-    ensures marked { IfOk result (λ marks. marked (first_answer (tables_of beside.now.table.now) (P.rows beside.now.view.now) (feed_header_value beside.now.header.now) beside.now.moment key.now (entity_value entity.now)) key.now marks.items
-        ≡ entity_found (tables_of beside.now.table.now) (rows_alone (P.rows beside.now.view.now)) (first_heads (feed_header_value beside.now.header.now) beside.now.moment) key.now (entity_value entity.now)) }
+    ensures marked { IfOk result (λ marks. marked (first_answer (tables_of setting.now.table.now) (P.rows setting.now.view.now) (feed_header_value setting.now.header.now) setting.now.moment key.now (entity_value entity.now)) key.now marks.items
+        ≡ entity_found (tables_of setting.now.table.now) (rows_alone (P.rows setting.now.view.now)) (first_heads (feed_header_value setting.now.header.now) setting.now.moment) key.now (entity_value entity.now)) }
     ensures ticked { OnOk result (tests.new ≡ tests.old + length entity_rules) }
     ensures most { tests.new ≤ tests.old + length entity_rules }
 {
-    let answers = answers_at(beside, key, entity);
-    let clear = Clear::of(beside.table, entity);
+    let answers = answers_at(setting, key, entity);
+    let clear = Clear::of(setting.table, entity);
     let mut marks = Vec::new(alloc);
-    let rules = rules_with(beside.table);
+    let rules = rules_with(setting.table);
     mark_rules(&answers, &clear, rules, key, entity, &mut marks, tests)?;
     tick_others(rules.len(), tests);
     Ok(marks)
@@ -208,14 +208,14 @@ pub fn marks_at<P: PairView, L: Ledger>(
 /// The finding of a mark, or none where its rule doesn't break there.
 pub fn finding_at<P: PairView>(
     alloc: Global,
-    beside: &Beside<'_, P>,
+    setting: &Setting<'_, P>,
     key: &EntityKey,
     entity: &Entity,
     mark: Mark,
 ) -> Result<Items<Finding>, AllocError>
-    ensures { IfOk result (λ list. list ≡ marked_at (first_answer (tables_of beside.now.table.now) (P.rows beside.now.view.now) (feed_header_value beside.now.header.now) beside.now.moment key.now (entity_value entity.now)) key.now mark) }
+    ensures { IfOk result (λ list. list ≡ marked_at (first_answer (tables_of setting.now.table.now) (P.rows setting.now.view.now) (feed_header_value setting.now.header.now) setting.now.moment key.now (entity_value entity.now)) key.now mark) }
 {
-    let answers = answers_at(beside, key, entity);
+    let answers = answers_at(setting, key, entity);
     let mut found = FindingList::new(alloc);
     judge_mark(alloc, &answers, key, mark, &mut found)?;
     Ok(found.into_items())

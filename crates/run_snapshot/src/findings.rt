@@ -26,7 +26,7 @@ use rt_outside::{Sink, Steps, put_all};
 use rt_report::Lines;
 use rule_table::{EntityKey, Mark, PairView};
 use run_base::Fault;
-use snapshot_keys::{Beside, HeaderRules, finding_at, marks_at, places, rows_of};
+use snapshot_keys::{Setting, HeaderRules, finding_at, marks_at, places, rows_of};
 use std::alloc::{AllocError, Global};
 use std::collections::BTreeMap;
 use std::sync::ledger::Ledger;
@@ -52,7 +52,7 @@ fn judge_header<L: Ledger>(
 /// Sends the findings of marks at an entity, one after the other, so that no more than one is held.
 fn send_marked<P: PairView, S: Sink>(
     alloc: Global,
-    beside: &Beside<'_, P>,
+    setting: &Setting<'_, P>,
     key: &EntityKey,
     entity: &Entity,
     marks: &[Mark],
@@ -60,15 +60,15 @@ fn send_marked<P: PairView, S: Sink>(
     out: &mut S,
 ) -> Result<(), Fault>
     ensures sent { OnOk result (Sends (S.state out.old).written (S.state out.new).written lines.old lines.new
-        (marked (first_answer (tables_of beside.now.table.now) (P.rows beside.now.view.now) (feed_header_value beside.now.header.now) beside.now.moment key.now (entity_value entity.now)) key.now marks.now)) }
+        (marked (first_answer (tables_of setting.now.table.now) (P.rows setting.now.view.now) (feed_header_value setting.now.header.now) setting.now.moment key.now (entity_value entity.now)) key.now marks.now)) }
     ensures part { OnErr result (SendsPart (S.state out.old).written (S.state out.new).written lines.old
-        (marked (first_answer (tables_of beside.now.table.now) (P.rows beside.now.view.now) (feed_header_value beside.now.header.now) beside.now.moment key.now (entity_value entity.now)) key.now marks.now)) }
+        (marked (first_answer (tables_of setting.now.table.now) (P.rows setting.now.view.now) (feed_header_value setting.now.header.now) setting.now.moment key.now (entity_value entity.now)) key.now marks.now)) }
     ensures not_read { IsErrOf result Fault.Read → ⊥ }
     ensures later { (S.state out.old).faults ≤ (S.state out.new).faults }
     ensures write { IsErrOf result Fault.Write → Rose (S.state out.old).faults (S.state out.new).faults }
 {
     for mark in marks {
-        let found = finding_at(alloc, beside, key, entity, *mark)?;
+        let found = finding_at(alloc, setting, key, entity, *mark)?;
         send(alloc, found.as_slice(), lines, out)?;
     }
     Ok(())
@@ -77,7 +77,7 @@ fn send_marked<P: PairView, S: Sink>(
 /// Sends the findings at the entity of a kept snapshot that has this number, which is decoded for it.
 fn send_entity<P: PairView, S: Sink, D: Ledger, T: Ledger>(
     alloc: Global,
-    beside: &Beside<'_, P>,
+    setting: &Setting<'_, P>,
     kept: &Kept,
     key: &EntityKey,
     place: usize,
@@ -88,9 +88,9 @@ fn send_entity<P: PairView, S: Sink, D: Ledger, T: Ledger>(
 ) -> Result<(), Fault>
     requires { place < length (entity_payloads kept.now) }
     ensures sent { OnOk result (Sends (S.state out.old).written (S.state out.new).written lines.old lines.new
-        (entity_found (tables_of beside.now.table.now) (rows_alone (P.rows beside.now.view.now)) (first_heads (feed_header_value beside.now.header.now) beside.now.moment) key.now (entity_at kept.now place))) }
+        (entity_found (tables_of setting.now.table.now) (rows_alone (P.rows setting.now.view.now)) (first_heads (feed_header_value setting.now.header.now) setting.now.moment) key.now (entity_at kept.now place))) }
     ensures part { OnErr result (SendsPart (S.state out.old).written (S.state out.new).written lines.old
-        (entity_found (tables_of beside.now.table.now) (rows_alone (P.rows beside.now.view.now)) (first_heads (feed_header_value beside.now.header.now) beside.now.moment) key.now (entity_at kept.now place))) }
+        (entity_found (tables_of setting.now.table.now) (rows_alone (P.rows setting.now.view.now)) (first_heads (feed_header_value setting.now.header.now) setting.now.moment) key.now (entity_at kept.now place))) }
     ensures not_read { IsErrOf result Fault.Read → ⊥ }
     ensures later { (S.state out.old).faults ≤ (S.state out.new).faults }
     ensures write { IsErrOf result Fault.Write → Rose (S.state out.old).faults (S.state out.new).faults }
@@ -98,14 +98,14 @@ fn send_entity<P: PairView, S: Sink, D: Ledger, T: Ledger>(
     ensures most { RoseAtMost (entities_work 1) (counters decodes.old tests.old) (counters decodes.new tests.new) }
 {
     let entity = decode_entity(alloc, kept.entity(place), decodes)?;
-    let marks = marks_at(alloc, beside, key, &entity, tests)?;
-    send_marked(alloc, beside, key, &entity, &marks, lines, out)
+    let marks = marks_at(alloc, setting, key, &entity, tests)?;
+    send_marked(alloc, setting, key, &entity, &marks, lines, out)
 }
 
 /// Sends the findings at the entities of a kept snapshot, one entity after the other.
 fn send_entities<P: PairView, S: Sink, D: Ledger, T: Ledger>(
     alloc: Global,
-    beside: &Beside<'_, P>,
+    setting: &Setting<'_, P>,
     kept: &Kept,
     places: &BTreeMap<EntityKey, usize>,
     lines: &mut Lines,
@@ -115,9 +115,9 @@ fn send_entities<P: PairView, S: Sink, D: Ledger, T: Ledger>(
 ) -> Result<(), Fault>
     requires { AreWithin kept.now places.now.entries }
     ensures sent { OnOk result (Sends (S.state out.old).written (S.state out.new).written lines.old lines.new
-        (found_at_seats (tables_of beside.now.table.now) (P.rows beside.now.view.now) (first_heads (feed_header_value beside.now.header.now) beside.now.moment) (placed kept.now places.now.entries))) }
+        (found_at_seats (tables_of setting.now.table.now) (P.rows setting.now.view.now) (first_heads (feed_header_value setting.now.header.now) setting.now.moment) (placed kept.now places.now.entries))) }
     ensures part { OnErr result (SendsPart (S.state out.old).written (S.state out.new).written lines.old
-        (found_at_seats (tables_of beside.now.table.now) (P.rows beside.now.view.now) (first_heads (feed_header_value beside.now.header.now) beside.now.moment) (placed kept.now places.now.entries))) }
+        (found_at_seats (tables_of setting.now.table.now) (P.rows setting.now.view.now) (first_heads (feed_header_value setting.now.header.now) setting.now.moment) (placed kept.now places.now.entries))) }
     ensures not_read { IsErrOf result Fault.Read → ⊥ }
     ensures later { (S.state out.old).faults ≤ (S.state out.new).faults }
     ensures write { IsErrOf result Fault.Write → Rose (S.state out.old).faults (S.state out.new).faults }
@@ -126,7 +126,7 @@ fn send_entities<P: PairView, S: Sink, D: Ledger, T: Ledger>(
 {
     for (key, place) in places {
         send_entity(
-            alloc, beside, kept, key, *place, lines, out, decodes, tests,
+            alloc, setting, kept, key, *place, lines, out, decodes, tests,
         )?;
     }
     Ok(())
@@ -158,14 +158,14 @@ fn send_snapshot<S: Sink, D: Ledger, T: Ledger>(
     let places = places(alloc, 0, kept)?;
     let rows = rows_of(alloc, kept, &places)?;
     judge_header(alloc, &rules, &header, moment, lines, tests)?;
-    let beside = Beside {
+    let setting = Setting {
         table: timetable,
         view: &rows,
         header: &header,
         moment,
     };
     send_entities(
-        alloc, &beside, kept, &places, lines, out, decodes, tests,
+        alloc, &setting, kept, &places, lines, out, decodes, tests,
     )
 }
 

@@ -63,8 +63,8 @@ loop-place-preserved c =
     let more = take_more all place own (subst (λ n. place < n) (sym (length-keys f [] ps)) l) ∙ ap (λ k. take place all ++ k ∷ []) (key_at_place f [] ps place own l) in
     let now = subst (AreMet room.seats (take place all ++ own ∷ [])) (sym c.in_ok-other.ensures.met) (met_more f (entity_payloads room.bytes) room.phase room.seats are own (take place all) met i.long i.met) in
     record {
-      places = places_more f ps place l before b c.loop-place.fresh.places c.put_if.new.fresh.places c.in_ok-other.ensures.other c.in_ok-put_if.ensures.places ∙ i.places;
-      keys = keys_more f ps place l before b c.loop-place.fresh.keys c.put_if.new.fresh.keys c.in_ok-other.ensures.other (c.in_ok-put_if.ensures.keys ∙ ap (λ k. cond b (c.loop-place.fresh.keys ++ k ∷ []) c.loop-place.fresh.keys) key) ∙ i.keys;
+      places = places_more f ps place l before b c.loop-place.fresh.places c.put_if.new.fresh.places c.in_ok-other.ensures.other c.in_ok-spare.ensures.places ∙ i.places;
+      keys = keys_more f ps place l before b c.loop-place.fresh.keys c.put_if.new.fresh.keys c.in_ok-other.ensures.other (c.in_ok-spare.ensures.keys ∙ ap (λ k. cond b (c.loop-place.fresh.keys ++ k ∷ []) c.loop-place.fresh.keys) key) ∙ i.keys;
       met = subst (λ ks. AreMet room.seats ks next) (sym more) now;
       long = ap (λ m. length m) c.in_ok-other.ensures.met ∙ length-met (at_key own room.seats) met ∙ i.long;
       tallied = tally_more f ps place l (λ x. met_at met room.seats (first_key f x)) (λ x. met_at next room.seats (first_key f x)) (count_in counts) (count_in counted) i.tallied

@@ -12,9 +12,9 @@ use Rattle.run_snapshot.proofs.findings.send_entities.Goals as goal
 
 pub loop-key-init : goal.loop-key-init
 loop-key-init g c =
-    let t = tables_of c.args.beside.now.table.now in
-    let rows = g.P.PairView.rows c.args.beside.now.view.now in
-    let heads : Heads = first_heads (feed_header_value c.args.beside.now.header.now) c.args.beside.now.moment in
+    let t = tables_of c.args.setting.now.table.now in
+    let rows = g.P.PairView.rows c.args.setting.now.view.now in
+    let heads : Heads = first_heads (feed_header_value c.args.setting.now.header.now) c.args.setting.now.moment in
     let all : List Found = found_at_seats t rows heads (placed c.args.kept.now c.args.places.now.entries) in
     let before = (g.S.Sink.state c.args.out.now).written in
     record {
@@ -29,9 +29,9 @@ loop-key-init g c =
 -- the findings of an entity couldn't be sent
 pub returns-in_err-send_entity-clause-part : goal.returns-in_err-send_entity-clause-part
 returns-in_err-send_entity-clause-part g c =
-    let t = tables_of c.args.beside.now.table.now in
-    let rows = g.P.PairView.rows c.args.beside.now.view.now in
-    let heads : Heads = first_heads (feed_header_value c.args.beside.now.header.now) c.args.beside.now.moment in
+    let t = tables_of c.args.setting.now.table.now in
+    let rows = g.P.PairView.rows c.args.setting.now.view.now in
+    let heads : Heads = first_heads (feed_header_value c.args.setting.now.header.now) c.args.setting.now.moment in
     let all : List Found = found_at_seats t rows heads (placed c.args.kept.now c.args.places.now.entries) in
     let xs : List Found = entity_found t (rows_alone rows) heads c.in-Some.key.now (entity_at c.args.kept.now c.in-Some.place.now) in
     let ys : List Found = found_at_seats t rows heads (placed c.args.kept.now c.next.new.self) in
@@ -47,9 +47,9 @@ returns-in_err-send_entity-clause-part g c =
 -- the findings of one entity more
 pub loop-key-preserved : goal.loop-key-preserved
 loop-key-preserved g c =
-    let t = tables_of c.args.beside.now.table.now in
-    let rows = g.P.PairView.rows c.args.beside.now.view.now in
-    let heads : Heads = first_heads (feed_header_value c.args.beside.now.header.now) c.args.beside.now.moment in
+    let t = tables_of c.args.setting.now.table.now in
+    let rows = g.P.PairView.rows c.args.setting.now.view.now in
+    let heads : Heads = first_heads (feed_header_value c.args.setting.now.header.now) c.args.setting.now.moment in
     let all : List Found = found_at_seats t rows heads (placed c.args.kept.now c.args.places.now.entries) in
     let xs : List Found = entity_found t (rows_alone rows) heads c.in-Some.key.now (entity_at c.args.kept.now c.in-Some.place.now) in
     let ys : List Found = found_at_seats t rows heads (placed c.args.kept.now c.next.new.self) in

@@ -10,9 +10,9 @@ use Rattle.run_snapshot.proofs.findings.send_entities.Given as goal
 -- what the entities that are left ask for
 abbrev pub invariant-loop-key : goal.invariant-loop-key
 invariant-loop-key g l =
-    let t = tables_of l.beside.table.now in
-    let rows = g.P.PairView.rows l.beside.view.now in
-    let heads = first_heads (feed_header_value l.beside.header.now) l.beside.moment in
+    let t = tables_of l.setting.table.now in
+    let rows = g.P.PairView.rows l.setting.view.now in
+    let heads = first_heads (feed_header_value l.setting.header.now) l.setting.moment in
     record {
       left : Left (g.S.Sink.state l.fn.out).written l.fn.lines (found_at_seats t rows heads (placed l.kept l.places.entries))
           (g.S.Sink.state l.out).written l.lines (found_at_seats t rows heads (placed l.kept l.key-iterator));

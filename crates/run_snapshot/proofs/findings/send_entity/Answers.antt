@@ -16,9 +16,9 @@ use Rattle.run_snapshot.proofs.findings.send_entity.Goals as goal
 -- the entity couldn't be decoded
 pub returns-in_err-entity-clause-part : goal.returns-in_err-entity-clause-part
 returns-in_err-entity-clause-part g c =
-    let t = tables_of c.args.beside.now.table.now in
-    let rows = g.P.PairView.rows c.args.beside.now.view.now in
-    let heads : Heads = first_heads (feed_header_value c.args.beside.now.header.now) c.args.beside.now.moment in
+    let t = tables_of c.args.setting.now.table.now in
+    let rows = g.P.PairView.rows c.args.setting.now.view.now in
+    let heads : Heads = first_heads (feed_header_value c.args.setting.now.header.now) c.args.setting.now.moment in
     let found : List Found = entity_found t (rows_alone rows) heads c.args.key.now (entity_at c.args.kept.now c.args.place) in
     let before = (g.S.Sink.state c.args.out.now).written in
     at_err c.from_residual.result (left_part before c.args.lines.now found before c.args.lines.now found (left_all before c.args.lines.now found))
@@ -26,9 +26,9 @@ returns-in_err-entity-clause-part g c =
 -- or not be judged
 pub returns-in_err-marks-clause-part : goal.returns-in_err-marks-clause-part
 returns-in_err-marks-clause-part g c =
-    let t = tables_of c.args.beside.now.table.now in
-    let rows = g.P.PairView.rows c.args.beside.now.view.now in
-    let heads : Heads = first_heads (feed_header_value c.args.beside.now.header.now) c.args.beside.now.moment in
+    let t = tables_of c.args.setting.now.table.now in
+    let rows = g.P.PairView.rows c.args.setting.now.view.now in
+    let heads : Heads = first_heads (feed_header_value c.args.setting.now.header.now) c.args.setting.now.moment in
     let found : List Found = entity_found t (rows_alone rows) heads c.args.key.now (entity_at c.args.kept.now c.args.place) in
     let before = (g.S.Sink.state c.args.out.now).written in
     at_err c.from_residual-in_err-marks.result (left_part before c.args.lines.now found before c.args.lines.now found (left_all before c.args.lines.now found))
@@ -36,12 +36,12 @@ returns-in_err-marks-clause-part g c =
 -- what its marks mean are the findings at the entity
 pub returns-clause-sent : goal.returns-clause-sent
 returns-clause-sent g c =
-    let t = tables_of c.args.beside.now.table.now in
-    let rows = g.P.PairView.rows c.args.beside.now.view.now in
-    let heads : Heads = first_heads (feed_header_value c.args.beside.now.header.now) c.args.beside.now.moment in
+    let t = tables_of c.args.setting.now.table.now in
+    let rows = g.P.PairView.rows c.args.setting.now.view.now in
+    let heads : Heads = first_heads (feed_header_value c.args.setting.now.header.now) c.args.setting.now.moment in
     let before = (g.S.Sink.state c.args.out.now).written in
     let now = (g.S.Sink.state c.send_marked.new.out).written in
-    let answer = first_answer t rows (feed_header_value c.args.beside.now.header.now) c.args.beside.now.moment c.args.key.now (entity_value c.in_ok-entity.entity) in
+    let answer = first_answer t rows (feed_header_value c.args.setting.now.header.now) c.args.setting.now.moment c.args.key.now (entity_value c.in_ok-entity.entity) in
     let said : entity_value c.in_ok-entity.entity ≡ entity_at c.args.kept.now c.args.place =
     c.in_ok-entity.ensures.value ∙ ap entity_of (sym (read_payload (entity_payloads c.args.kept.now) c.args.place c.entity.result.now c.entity.ensures.payload)) in
     let same = ap (marked answer c.args.key.now) c.deref.ensures.value ∙ c.in_ok-marks.ensures.marked ∙ ap (entity_found t (rows_alone rows) heads c.args.key.now) said in
@@ -49,12 +49,12 @@ returns-clause-sent g c =
 
 pub returns-clause-part : goal.returns-clause-part
 returns-clause-part g c =
-    let t = tables_of c.args.beside.now.table.now in
-    let rows = g.P.PairView.rows c.args.beside.now.view.now in
-    let heads : Heads = first_heads (feed_header_value c.args.beside.now.header.now) c.args.beside.now.moment in
+    let t = tables_of c.args.setting.now.table.now in
+    let rows = g.P.PairView.rows c.args.setting.now.view.now in
+    let heads : Heads = first_heads (feed_header_value c.args.setting.now.header.now) c.args.setting.now.moment in
     let before = (g.S.Sink.state c.args.out.now).written in
     let now = (g.S.Sink.state c.send_marked.new.out).written in
-    let answer = first_answer t rows (feed_header_value c.args.beside.now.header.now) c.args.beside.now.moment c.args.key.now (entity_value c.in_ok-entity.entity) in
+    let answer = first_answer t rows (feed_header_value c.args.setting.now.header.now) c.args.setting.now.moment c.args.key.now (entity_value c.in_ok-entity.entity) in
     let said : entity_value c.in_ok-entity.entity ≡ entity_at c.args.kept.now c.args.place =
     c.in_ok-entity.ensures.value ∙ ap entity_of (sym (read_payload (entity_payloads c.args.kept.now) c.args.place c.entity.result.now c.entity.ensures.payload)) in
     let same = ap (marked answer c.args.key.now) c.deref.ensures.value ∙ c.in_ok-marks.ensures.marked ∙ ap (entity_found t (rows_alone rows) heads c.args.key.now) said in

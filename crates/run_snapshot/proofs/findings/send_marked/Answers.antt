@@ -12,7 +12,7 @@ use Rattle.run_snapshot.proofs.findings.send_marked.Goals as goal
 -- the finding of a mark couldn't be made
 pub returns-in_err-found-clause-part : goal.returns-in_err-found-clause-part
 returns-in_err-found-clause-part g c =
-    let answer = first_answer (tables_of c.args.beside.now.table.now) (g.P.PairView.rows c.args.beside.now.view.now) (feed_header_value c.args.beside.now.header.now) c.args.beside.now.moment c.args.key.now (entity_value c.args.entity.now) in
+    let answer = first_answer (tables_of c.args.setting.now.table.now) (g.P.PairView.rows c.args.setting.now.view.now) (feed_header_value c.args.setting.now.header.now) c.args.setting.now.moment c.args.key.now (entity_value c.args.entity.now) in
     let all : List Found = marked answer c.args.key.now c.args.marks.now in
     at_err c.from_residual.result
     (left_part (g.S.Sink.state c.args.out.now).written c.args.lines.now all (g.S.Sink.state c.loop-mark.out).written c.loop-mark.lines _ c.loop-mark.invariant.left)
@@ -20,7 +20,7 @@ returns-in_err-found-clause-part g c =
 -- or not be sent
 pub returns-in_err-send-clause-part : goal.returns-in_err-send-clause-part
 returns-in_err-send-clause-part g c =
-    let answer = first_answer (tables_of c.args.beside.now.table.now) (g.P.PairView.rows c.args.beside.now.view.now) (feed_header_value c.args.beside.now.header.now) c.args.beside.now.moment c.args.key.now (entity_value c.args.entity.now) in
+    let answer = first_answer (tables_of c.args.setting.now.table.now) (g.P.PairView.rows c.args.setting.now.view.now) (feed_header_value c.args.setting.now.header.now) c.args.setting.now.moment c.args.key.now (entity_value c.args.entity.now) in
     let k = c.args.key.now in
     let all : List Found = marked answer k c.args.marks.now in
     let ys : List Found = marked answer k (drop (c.loop-mark.mark-index + 1) c.args.marks.now) in
@@ -37,7 +37,7 @@ returns-in_err-send-clause-part g c =
 -- the finding of one mark more
 pub loop-mark-preserved : goal.loop-mark-preserved
 loop-mark-preserved g c =
-    let answer = first_answer (tables_of c.args.beside.now.table.now) (g.P.PairView.rows c.args.beside.now.view.now) (feed_header_value c.args.beside.now.header.now) c.args.beside.now.moment c.args.key.now (entity_value c.args.entity.now) in
+    let answer = first_answer (tables_of c.args.setting.now.table.now) (g.P.PairView.rows c.args.setting.now.view.now) (feed_header_value c.args.setting.now.header.now) c.args.setting.now.moment c.args.key.now (entity_value c.args.entity.now) in
     let k = c.args.key.now in
     let all : List Found = marked answer k c.args.marks.now in
     let ys : List Found = marked answer k (drop (c.loop-mark.mark-index + 1) c.args.marks.now) in

@@ -9,7 +9,7 @@ use Rattle.run_snapshot.proofs.findings.send_marked.Given as goal
 -- what was sent, the lines that are held back and those of the marks that are left are all
 abbrev pub invariant-loop-mark : goal.invariant-loop-mark
 invariant-loop-mark g l =
-    let answer = first_answer (tables_of l.beside.table.now) (g.P.PairView.rows l.beside.view.now) (feed_header_value l.beside.header.now) l.beside.moment l.key (entity_value l.entity) in
+    let answer = first_answer (tables_of l.setting.table.now) (g.P.PairView.rows l.setting.view.now) (feed_header_value l.setting.header.now) l.setting.moment l.key (entity_value l.entity) in
     record {
       left : Left (g.S.Sink.state l.fn.out).written l.fn.lines (marked answer l.key l.marks)
           (g.S.Sink.state l.out).written l.lines (marked answer l.key (drop l.mark-index l.marks));
