@@ -26,7 +26,7 @@ use rt_outside::{Sink, Steps, put_all};
 use rt_report::Lines;
 use rule_table::{EntityKey, Mark, PairView};
 use run_base::Fault;
-use snapshot_keys::{Setting, HeaderRules, finding_at, marks_at, places, rows_of};
+use snapshot_keys::{HeaderRules, Setting, finding_at, marks_at, places, rows_of};
 use std::alloc::{AllocError, Global};
 use std::collections::BTreeMap;
 use std::sync::ledger::Ledger;
@@ -164,9 +164,7 @@ fn send_snapshot<S: Sink, D: Ledger, T: Ledger>(
         header: &header,
         moment,
     };
-    send_entities(
-        alloc, &setting, kept, &places, lines, out, decodes, tests,
-    )
+    send_entities(alloc, &setting, kept, &places, lines, out, decodes, tests)
 }
 
 /// Writes a line, and behind it the findings of an accepted snapshot of feed 0, which is the first one of all. It answers whether

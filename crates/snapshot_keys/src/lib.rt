@@ -14,6 +14,6 @@ mod placing;
 mod rows;
 mod slot_ids;
 
-pub use judging::{Setting, HeaderRules, finding_at, marks_at};
+pub use judging::{HeaderRules, Setting, finding_at, marks_at};
 pub use placing::places;
 pub use rows::rows_of;
