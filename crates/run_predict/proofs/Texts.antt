@@ -1,12 +1,13 @@
 -- The rows of entities, one entity after the other.
-use Rattle.std.proofs.Common.{◌≡◌, ◌<◌, ◌≤◌, ◌+◌, ◌∷◌, ◌++◌, [], ℕ, List, length, take, get_or, Some, slice_get, refl, sym, ap, ◌∙◌, append_assoc, arith, subst, ⊎_elim, inl, inr}
+use Rattle.std.proofs.Common.{◌≡◌, ◌<◌, ◌≤◌, ◌+◌, ◌∷◌, ◌++◌, [], ℕ, List, length, take, Some, slice_get, refl, sym, ap, ◌∙◌, append_assoc, arith, subst, ⊎_elim, inl, inr}
 use Rattle.std.specs.declared.option.Option.{Option}
 use Rattle.std.specs.Io.KnownBytes.{append_known}
 use Rattle.std.specs.List.{concat}
 use Rattle.std.proofs.lemmas.Bool.{cases_lt}
 use Rattle.std.proofs.lemmas.List.{append-nil, length-append}
-use Rattle.std.proofs.lemmas.Option.{slice_get-get_or, slice_get_within}
-use Rattle.feed_values.specs.declared.entity.Entity.{Entity}
+use Rattle.std.proofs.lemmas.Option.{slice_get_within}
+use Rattle.feed_values.specs.Messages.{entity}
+use Rattle.feed_values.specs.Schema.{Value}
 use Rattle.jiff_tz.specs.declared.timezone.TimeZone.{TimeZone as PlainZone}
 use Rattle.propagation.proofs.ListLemmas.{slice_get-left, slice_get-seam}
 use Rattle.rt_outside.specs.Sink.{AppendsPrefix}
@@ -25,30 +26,30 @@ concat-push (x ∷ xs) y = ap (λ l. x ++ l) (concat-push xs y) ∙ sym (append_
 some_is : {A : Type 0} (x y : A) → Some x ≡ Some y → x ≡ y
 some_is x y e = cc e
 
-module _ (t : Tables) (zone : PlainZone) (moment : ℕ) (entities : List Entity) where
+module _ (t : Tables) (zone : PlainZone) (moment : ℕ) (entities : List (Value entity)) where
   none_yet : AreTexts t zone moment entities []
   none_yet k e x ae ax = absurd (cc ax)
 
-  last : (texts : List (List ℕ)) (entity : Entity) (text : List ℕ) → slice_get entities (length texts) ≡ Some entity →
-      AreEntityRows t zone moment (take (length texts) entities) entity text →
-      (e : Entity) (x : List ℕ) → slice_get entities (length texts) ≡ Some e → slice_get (texts ++ text ∷ []) (length texts) ≡ Some x →
+  last : (texts : List (List ℕ)) (v : Value entity) (text : List ℕ) → slice_get entities (length texts) ≡ Some v →
+      AreEntityRows t zone moment (take (length texts) entities) v text →
+      (e : Value entity) (x : List ℕ) → slice_get entities (length texts) ≡ Some e → slice_get (texts ++ text ∷ []) (length texts) ≡ Some x →
       AreEntityRows t zone moment (take (length texts) entities) e x
-  last texts entity text at is e x ae ax =
-      subst (λ w. AreEntityRows t zone moment (take (length texts) entities) w x) (some_is entity e (sym at ∙ ae))
-      (subst (λ z. AreEntityRows t zone moment (take (length texts) entities) entity z) (some_is text x (sym (slice_get-seam texts text) ∙ ax)) is)
+  last texts v text at is e x ae ax =
+      subst (λ w. AreEntityRows t zone moment (take (length texts) entities) w x) (some_is v e (sym at ∙ ae))
+      (subst (λ z. AreEntityRows t zone moment (take (length texts) entities) v z) (some_is text x (sym (slice_get-seam texts text) ∙ ax)) is)
 
   -- the rows of one entity more
-  pub texts_push : (texts : List (List ℕ)) (entity : Entity) (text : List ℕ) → slice_get entities (length texts) ≡ Some entity →
-      AreEntityRows t zone moment (take (length texts) entities) entity text → AreTexts t zone moment entities texts →
+  pub texts_push : (texts : List (List ℕ)) (v : Value entity) (text : List ℕ) → slice_get entities (length texts) ≡ Some v →
+      AreEntityRows t zone moment (take (length texts) entities) v text → AreTexts t zone moment entities texts →
       AreTexts t zone moment entities (texts ++ text ∷ [])
-  texts_push texts entity text at is are k e x ae ax =
+  texts_push texts v text at is are k e x ae ax =
       ⊎_elim
       (λ lt. are k e x ae (sym (slice_get-left texts (text ∷ []) k lt) ∙ ax))
       (λ ge. let within = slice_get_within (texts ++ text ∷ []) k x ax in
       let size = length-append texts (text ∷ []) in
       let here : k ≡ length texts = omega (arith, within, size, ge) in
       subst (λ i. AreEntityRows t zone moment (take i entities) e x) (sym here)
-      (last texts entity text at is e x (subst (λ i. slice_get entities i ≡ Some e) here ae) (subst (λ i. slice_get (texts ++ text ∷ []) i ≡ Some x) here ax)))
+      (last texts v text at is e x (subst (λ i. slice_get entities i ≡ Some e) here ae) (subst (λ i. slice_get (texts ++ text ∷ []) i ≡ Some x) here ax)))
       (cases_lt k (length texts))
 
   -- the rows of the first i entities were appended
@@ -67,13 +68,13 @@ module _ (t : Tables) (zone : PlainZone) (moment : ℕ) (entities : List Entity)
   pub so_far_all : (old new : Option (List ℕ)) (i : ℕ) → i ≡ length entities → SoFar old new i → WritesAllTexts t zone moment entities old new
   so_far_all old new i end so = (so.texts, so.size ∙ end, so.are, so.written)
 
-  module _ (old mid new : Option (List ℕ)) (i : ℕ) (entity : Entity) (text : List ℕ) (within : i < length entities) (is : entity ≡ get_or entities i entity)
-      (rows : AreEntityRows t zone moment (take i entities) entity text) (so : SoFar old mid i) where
-    found : slice_get entities (length so.texts) ≡ Some entity
-    found = subst (λ n. slice_get entities n ≡ Some entity) (sym so.size) (slice_get-get_or entities i entity within ∙ ap Some (sym is))
+  module _ (old mid new : Option (List ℕ)) (i : ℕ) (v : Value entity) (text : List ℕ) (at : slice_get entities i ≡ Some v)
+      (rows : AreEntityRows t zone moment (take i entities) v text) (so : SoFar old mid i) where
+    found : slice_get entities (length so.texts) ≡ Some v
+    found = subst (λ n. slice_get entities n ≡ Some v) (sym so.size) at
 
     more : AreTexts t zone moment entities (so.texts ++ text ∷ [])
-    more = texts_push so.texts entity text found (subst (λ n. AreEntityRows t zone moment (take n entities) entity text) (sym so.size) rows) so.are
+    more = texts_push so.texts v text found (subst (λ n. AreEntityRows t zone moment (take n entities) v text) (sym so.size) rows) so.are
 
     size : length (so.texts ++ text ∷ []) ≡ i + 1
     size = length-append so.texts (text ∷ []) ∙ ap (λ n. n + 1) so.size
@@ -91,7 +92,7 @@ module _ (t : Tables) (zone : PlainZone) (moment : ℕ) (entities : List Entity)
     pub so_far_failed : AppendsPrefix mid new text → WritesTexts t zone moment entities old new
     so_far_failed put = (
       so.texts ++ text ∷ [],
-      subst (λ n. n ≤ length entities) (sym size) (omega arith),
+      subst (λ n. n ≤ length entities) (sym size) (let within = slice_get_within entities i v at in omega (arith, within)),
       more,
       subst (AppendsPrefix old new) (sym (concat-push so.texts text)) (AppendsPrefix-second old mid new (concat so.texts) text so.written put),
     )

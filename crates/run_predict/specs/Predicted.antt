@@ -1,15 +1,14 @@
 -- What `predict` is to write and to answer. It is a relation, since a zone is tied to its text or its bytes by one, and so are
 -- the predictions of a trip update to its timetable, its zone and the moment. (This profile.)
-use Rattle.std.specs.Prelude.{◌≡◌, ◌≤◌, ◌⊎◌, ℕ, List, [], ◌∷◌, ◌++◌, length, map, take, Contains, Option, Some, None, Result, Ok, Err, slice_get}
+use Rattle.std.specs.Prelude.{◌≡◌, ◌≤◌, ◌⊎◌, ℕ, List, [], ◌∷◌, ◌++◌, length, take, Contains, Option, Some, None, Result, Ok, Err, slice_get}
 use Rattle.std.specs.FinMap.{get}
 use Rattle.std.specs.List.{concat}
 use Rattle.std.specs.Io.KnownBytes.{append_known}
 use Rattle.feed_codec.specs.declared.refusal.Refusal.{Refusal}
-use Rattle.feed_values.specs.Messages.{feed_message}
+use Rattle.feed_values.specs.Messages.{entity, feed_message}
 use Rattle.feed_values.specs.Schema.{Value}
-use Rattle.feed_values.specs.Views.{entity_value, feed_message_value}
+use Rattle.feed_values.specs.Views.{entity_value}
 use Rattle.feed_values.specs.declared.entity.Entity.{Entity}
-use Rattle.feed_values.specs.declared.feed_message.FeedMessage.{FeedMessage}
 use Rattle.feed_values.specs.declared.trip_update.TripUpdate.{TripUpdate}
 use Rattle.jiff_tz.specs.declared.timezone.TimeZone.{TimeZone as PlainZone}
 use Rattle.judging.specs.Seats.{count_id}
@@ -37,17 +36,17 @@ AreUpdateRows t zone moment id occurrence None text = text ≡ []
 AreUpdateRows t zone moment id occurrence (Some update) text =
     (p : Predictions) × IsPrediction t zone update moment p × AreRows id occurrence update p text
 
--- the rows of what is predicted of its trip update, and none where it has no trip update; `occurrence` counts the entities
--- before it with its id
-abbrev pub AreEntityRows : Tables → PlainZone → ℕ → (earlier : List Entity) → Entity → List ℕ → Type 0
-AreEntityRows t zone moment earlier entity text =
-    AreUpdateRows t zone moment entity.id (count_id (map entity_value earlier) entity.id) entity.trip_update text
+-- of an entity by its value: the rows of what is predicted of its trip update, and none where it has no trip update; `occurrence`
+-- counts the entities before it with its id
+abbrev pub AreEntityRows : Tables → PlainZone → ℕ → (earlier : List (Value entity)) → Value entity → List ℕ → Type 0
+AreEntityRows t zone moment earlier v text =
+    (decoded : Entity) × (entity_value decoded ≡ v) × AreUpdateRows t zone moment decoded.id (count_id earlier decoded.id) decoded.trip_update text
 
 -- ---- the table
 -- the rows of the first entities, in the order of the snapshot, of as many as there are texts
-abbrev pub AreTexts : Tables → PlainZone → ℕ → List Entity → List (List ℕ) → Type 0
-AreTexts t zone moment entities texts = (k : ℕ) (entity : Entity) (text : List ℕ) → slice_get entities k ≡ Some entity → slice_get texts k ≡ Some text
-    → AreEntityRows t zone moment (take k entities) entity text
+abbrev pub AreTexts : Tables → PlainZone → ℕ → List (Value entity) → List (List ℕ) → Type 0
+AreTexts t zone moment entities texts = (k : ℕ) (v : Value entity) (text : List ℕ) → slice_get entities k ≡ Some v → slice_get texts k ≡ Some text
+    → AreEntityRows t zone moment (take k entities) v text
 
 -- a table that is begun ends behind the rows of some entity, or before the first
 abbrev pub Covers : Extent → (written all : ℕ) → Type 0
@@ -58,15 +57,14 @@ abbrev pub table_report : List (List ℕ) → Report
 table_report texts = record { text = head_text ++ concat texts; errors = []; status = answer.Clean }
 
 -- the header row, and the rows of each entity
-abbrev pub IsTable : Extent → Tables → PlainZone → ℕ → List Entity → Report → Type 0
+abbrev pub IsTable : Extent → Tables → PlainZone → ℕ → List (Value entity) → Report → Type 0
 IsTable extent t zone moment entities report =
     (texts : List (List ℕ)) × Covers extent (length texts) (length entities) × AreTexts t zone moment entities texts × (report ≡ table_report texts)
 
 -- ---- the report
--- by what the snapshot says, or why it is refused
+-- by what the snapshot says, of which `v.1.0` are the entities, or why it is refused
 abbrev pub IsSnapshotReport : Extent → Tables → PlainZone → ℕ → Result (Value feed_message) Refusal → Report → Type 0
-IsSnapshotReport extent t zone moment (Ok v) report =
-    (message : FeedMessage) × (feed_message_value message ≡ v) × IsTable extent t zone moment message.entity report
+IsSnapshotReport extent t zone moment (Ok v) report = IsTable extent t zone moment v.1.0 report
 IsSnapshotReport extent t zone moment (Err refusal) report = report ≡ refused_report refusal
 
 -- with an accepted timetable: the zone is refused, or it is had and the snapshot is read
@@ -92,11 +90,11 @@ IsPredictInput folder word file name = IsZonedInput word file name ⊎ IsTableFi
 
 -- ---- in the code, of which the report doesn't speak
 -- the rows of the first entities, of which a prefix was appended
-abbrev pub WritesTexts : Tables → PlainZone → ℕ → List Entity → (old new : Option (List ℕ)) → Type 0
+abbrev pub WritesTexts : Tables → PlainZone → ℕ → List (Value entity) → (old new : Option (List ℕ)) → Type 0
 WritesTexts t zone moment entities old new =
     (texts : List (List ℕ)) × (length texts ≤ length entities) × AreTexts t zone moment entities texts × AppendsPrefix old new (concat texts)
 
 -- the rows of all entities were appended
-abbrev pub WritesAllTexts : Tables → PlainZone → ℕ → List Entity → (old new : Option (List ℕ)) → Type 0
+abbrev pub WritesAllTexts : Tables → PlainZone → ℕ → List (Value entity) → (old new : Option (List ℕ)) → Type 0
 WritesAllTexts t zone moment entities old new =
     (texts : List (List ℕ)) × (length texts ≡ length entities) × AreTexts t zone moment entities texts × (new ≡ append_known old (concat texts))

@@ -1,8 +1,10 @@
 //! The command `predict`.
-ghost use Rattle.std.specs.Prelude.{◌≡◌, ◌≤◌, ◌∷◌, [], Some, IfSome, IfOk, OnOk, IsErrOf, Contains};
+ghost use Rattle.std.specs.Prelude.{◌≡◌, ◌<◌, ◌≤◌, ◌∷◌, [], Some, IfSome, IfOk, OnOk, IsErrOf, Contains, length, slice_get};
 ghost use Rattle.std.specs.FinMap.{get};
 ghost use Rattle.rt_outside.specs.Causes.{Rose};
 ghost use Rattle.rt_outside.specs.Store.{contents_told};
+ghost use Rattle.feed_values.specs.Snapshot.{entities_of, entity_payloads};
+ghost use Rattle.feed_values.specs.Views.{entity_value};
 ghost use Rattle.timetable.specs.Lookups.{tables_in};
 ghost use Rattle.trip_calendar.specs.Zones.{zone_of};
 ghost use Rattle.run_base.specs.Faults.{IsCarriedOut};
@@ -12,25 +14,30 @@ ghost use Rattle.run_predict.specs.Predicted.{AreUpdateRows, IsPredictInput, IsP
 ghost use Rattle.run_base.specs.Carried.{CarriesOut, WritesPart, WritesWhole};
 
 use crate::zone_input::{told_as, zone_input};
+use feed_codec::decode_entity;
+use feed_stream::Kept;
 use feed_values::{Entity, TripUpdate};
 use prediction_table::{prediction_head, prediction_rows};
 use propagation::Resolver;
-use rt_outside::{Files, Sink, put_all};
+use rt_outside::{Files, Sink, Steps, put_all};
 use rule_table::count_one;
-use run_base::{Fault, Status, put_refused, read_snapshot, say_fault, say_input_fault};
+use run_base::{Fault, Status, put_refused, read_kept, say_fault, say_input_fault};
 use run_timetable::load_fault;
 use run_words::ZoneWord;
 use std::alloc::{AllocError, Global};
 use std::collections::BTreeMap;
+use std::marker::Brand;
+use std::sync::ledger::{Blank, Ledger};
 use timetable::Timetable;
 use trip_calendar::Zone;
 
 /// Carries out `predict` on the snapshot in this file, at this moment, as POSIX time in seconds, with the timetable in a folder,
 /// whose times are those of a zone.
 ///
-/// The timetable is read first, then the zone, then the snapshot; a timetable or a zone that is refused ends the run. The rows of
-/// each entity are written before those of the next one are made, so memory doesn't grow with the table. Where 2^32 entities have
-/// one id, or a trip update has 2^32 updates, it answers want of memory.
+/// The timetable is read first, then the zone, then the snapshot; a timetable or a zone that is refused ends the run. An entity is
+/// decoded when its turn comes, and its rows are written before the next one's turn: so memory grows with the bytes of the snapshot,
+/// the ids of its entities and the largest entity, and not with what all of them hold or with the table. Where 2^32 entities have one
+/// id, or a trip update has 2^32 updates, it answers want of memory.
 pub fn predict<F: Files, S: Sink, E: Sink>(
     alloc: Global,
     folder: &str,
@@ -115,60 +122,77 @@ fn write_report<F: Files, S: Sink>(
     ensures read { IsErrOf result Fault.Read → Rose (F.state files.old).faults (F.state files.new).faults }
     ensures write { IsErrOf result Fault.Write → Rose (S.state out.old).faults (S.state out.new).faults }
 {
-    match read_snapshot(alloc, files, file)? {
-        Ok(message) => {
-            put_table(alloc, table, zone, moment, message.entity.as_slice(), out)?;
+    match read_kept(alloc, files, file, None)? {
+        Ok(kept) => {
+            put_table(alloc, table, zone, moment, &kept, out)?;
             Ok(Status::Clean)
         }
         Err(refusal) => put_refused(alloc, &refusal, out),
     }
 }
 
-// Writes the header row, and the rows of entities.
+// Writes the header row, and the rows of the entities of a snapshot.
 fn put_table<S: Sink>(
     alloc: Global,
     table: &Timetable,
     zone: &Zone,
     moment: u64,
-    entities: &[Entity],
+    kept: &Kept,
     out: &mut S,
 ) -> Result<(), Fault>
-    ensures part { WritesPart (λ extent. IsTable extent (tables_in table.now) (zone_of zone.now) moment entities.now)
+    ensures part { WritesPart (λ extent. IsTable extent (tables_in table.now) (zone_of zone.now) moment (entities_of kept.now))
         (S.state out.old).written (S.state out.new).written }
-    ensures whole { OnOk result (WritesWhole (λ extent. IsTable extent (tables_in table.now) (zone_of zone.now) moment entities.now)
+    ensures whole { OnOk result (WritesWhole (λ extent. IsTable extent (tables_in table.now) (zone_of zone.now) moment (entities_of kept.now))
         (S.state out.old).written (S.state out.new).written Status.Clean) }
     ensures not_read { IsErrOf result Fault.Read → ⊥ }
     ensures write { IsErrOf result Fault.Write → Rose (S.state out.old).faults (S.state out.new).faults }
 {
     let head = prediction_head(alloc)?;
     put_all(out, &head)?;
-    put_entities(alloc, table, zone, moment, entities, out)
+    put_entities(alloc, table, zone, moment, kept, out)
 }
 
-// Writes the rows of entities.
+// Writes the rows of the entities of a snapshot, each of which is decoded for its own rows alone.
 fn put_entities<S: Sink>(
     alloc: Global,
     table: &Timetable,
     zone: &Zone,
     moment: u64,
-    entities: &[Entity],
+    kept: &Kept,
     out: &mut S,
 ) -> Result<(), Fault>
-    ensures part { WritesTexts (tables_in table.now) (zone_of zone.now) moment entities.now
+    ensures part { WritesTexts (tables_in table.now) (zone_of zone.now) moment (entities_of kept.now)
         (S.state out.old).written (S.state out.new).written }
-    ensures whole { OnOk result (WritesAllTexts (tables_in table.now) (zone_of zone.now) moment entities.now
+    ensures whole { OnOk result (WritesAllTexts (tables_in table.now) (zone_of zone.now) moment (entities_of kept.now)
         (S.state out.old).written (S.state out.new).written) }
     ensures not_read { IsErrOf result Fault.Read → ⊥ }
     ensures later { (S.state out.old).faults ≤ (S.state out.new).faults }
     ensures write { IsErrOf result Fault.Write → Rose (S.state out.old).faults (S.state out.new).faults }
 {
     let mut counts = BTreeMap::new(alloc);
-    for entity in entities {
+    for place in 0..kept.len() {
+        let entity = entity_at::<Brand>(alloc, kept, place, Blank::new(1))?;
         let occurrence = count_one(alloc, &mut counts, entity.id.as_str())?;
-        let rows = entity_rows(alloc, table, zone, moment, occurrence, entity)?;
+        let rows = entity_rows(alloc, table, zone, moment, occurrence, &entity)?;
         put_all(out, &rows)?;
     }
     Ok(())
+}
+
+// The entity that has this number in a snapshot. What decoding it counts is of no account here.
+fn entity_at<L: Ledger>(
+    alloc: Global,
+    kept: &Kept,
+    place: usize,
+    blank: Blank,
+) -> Result<Entity, AllocError>
+    requires within { place < length (entity_payloads kept.now) }
+    requires name { blank.name ≡ L.name }
+    requires parts { blank.parts ≡ L.parts }
+    requires one { blank.parts ≡ 1 }
+    ensures { IfOk result (λ entity. slice_get (entities_of kept.now) place ≡ Some (entity_value entity)) }
+{
+    decode_entity(alloc, kept.entity(place), &mut Steps::<L>::new(blank))
 }
 
 // The rows of an entity.
