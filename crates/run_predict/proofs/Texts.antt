@@ -1,5 +1,5 @@
 -- The rows of entities, one entity after the other.
-use Rattle.std.proofs.Common.{◌≡◌, ◌<◌, ◌≤◌, ◌+◌, ◌∷◌, ◌++◌, [], ℕ, List, length, take, Some, slice_get, refl, sym, ap, ◌∙◌, append_assoc, arith, subst, ⊎_elim, inl, inr}
+use Rattle.std.proofs.Common.{◌≡◌, ◌≤◌, ◌+◌, ◌∷◌, ◌++◌, [], ℕ, List, length, take, Some, slice_get, refl, sym, ap, ◌∙◌, append_assoc, arith, subst, ⊎_elim, inr}
 use Rattle.std.specs.declared.option.Option.{Option}
 use Rattle.std.specs.Io.KnownBytes.{append_known}
 use Rattle.std.specs.List.{concat}
@@ -11,7 +11,7 @@ use Rattle.feed_values.specs.Schema.{Value}
 use Rattle.jiff_tz.specs.declared.timezone.TimeZone.{TimeZone as PlainZone}
 use Rattle.propagation.proofs.ListLemmas.{slice_get-left, slice_get-seam}
 use Rattle.rt_outside.specs.Sink.{AppendsPrefix}
-use Rattle.rt_outside.proofs.Appends.{append_known-both, append_known-nil, AppendsPrefix-first, AppendsPrefix-nothing, AppendsPrefix-second, AppendsPrefix-whole}
+use Rattle.rt_outside.proofs.Appends.{append_known-both, append_known-nil, AppendsPrefix-first, AppendsPrefix-second, AppendsPrefix-whole}
 use Rattle.timetable.specs.Timetables.{Tables}
 use Rattle.prediction_table.specs.Predictions.{head_text}
 use Rattle.run_predict.specs.Predicted.{AreEntityRows, AreTexts, IsTable, WritesAllTexts, WritesTexts, table_report}
