@@ -1,26 +1,39 @@
 -- The text of a snapshot's form in pieces: its entities, its header, its unknown fields. (Keys stand in byte order.)
-use Rattle.std.specs.Prelude.{ℕ, List, [], ◌∷◌, ◌++◌, map, false, codes}
-use Rattle.serde_json.specs.Data.{Data}
-use Rattle.serde_json.specs.View.{items_of}
-use Rattle.serde_json.specs.Written.{compact_text, items_text}
+use Rattle.std.specs.Prelude.{ℕ, List, [], ◌∷◌, ◌++◌, Bool, true, false, codes, if◌then◌else◌}
+use Rattle.serde_json.specs.Written.{compact_text}
 use Rattle.rt_wire.specs.Fields.{WireField}
 use Rattle.feed_values.specs.Schema.{Value}
 use Rattle.feed_values.specs.Messages.{feed_message, feed_header, entity}
 use Rattle.feed_json.specs.Form.{form, unknown_form}
 
--- an array from behind its opening bracket on
-abbrev pub items_piece : {A : Type 0} → (A → Data) → List A → List ℕ
-items_piece write xs = items_text false (items_of (map write xs))
+-- ---- an array, whose items and end are written by whether they stand behind an item
+abbrev pub array_from : {A : Type 0} → (Bool → A → List ℕ) → (Bool → List ℕ) → Bool → List A → List ℕ
+array_from item end later [] = end later
+array_from item end later (x ∷ xs) = item later x ++ array_from item end true xs
 
--- the entities, unless there are none, and a comma
-abbrev pub entities_piece : List (Value entity) → List ℕ
-entities_piece [] = []
-entities_piece (e ∷ es) = codes "\"entity\":[" ++ items_piece (form entity) (e ∷ es) ++ codes ","
+-- before an item a comma, or before the first one what opens the array
+abbrev pub before_item : List ℕ → Bool → List ℕ
+before_item opening later = if later then codes "," else opening
 
--- the unknown fields behind a comma, unless there are none
-abbrev pub unknown_piece : List WireField → List ℕ
-unknown_piece [] = []
-unknown_piece (f ∷ fs) = codes ",\"unknown\":[" ++ items_piece unknown_form (f ∷ fs)
+-- behind the items what closes the array, unless there are none
+abbrev pub behind_items : List ℕ → Bool → List ℕ
+behind_items closing later = if later then closing else []
 
+-- ---- the pieces of a snapshot
+abbrev pub entity_piece : Bool → Value entity → List ℕ
+entity_piece later e = before_item (codes "\"entity\":[") later ++ compact_text (form entity e)
+
+-- the header, behind the entities
+abbrev pub header_piece : Value feed_header → Bool → List ℕ
+header_piece header later = behind_items (codes "],") later ++ (codes "\"header\":" ++ compact_text (form feed_header header))
+
+abbrev pub unknown_piece : Bool → WireField → List ℕ
+unknown_piece later f = before_item (codes ",\"unknown\":[") later ++ compact_text (unknown_form f)
+
+-- the end, behind the unknown fields
+abbrev pub end_piece : Bool → List ℕ
+end_piece later = behind_items (codes "]") later ++ codes "}"
+
+-- all of them
 abbrev pub pieces : Value feed_message → List ℕ
-pieces v = codes "{" ++ entities_piece v.1.0 ++ codes "\"header\":" ++ compact_text (form feed_header v.0) ++ unknown_piece v.1.1 ++ codes "}"
+pieces v = codes "{" ++ (array_from entity_piece (header_piece v.0) false v.1.0 ++ array_from unknown_piece end_piece false v.1.1)

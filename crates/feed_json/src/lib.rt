@@ -9,7 +9,7 @@
 //! is of the wire type of its field, is read as the decoder reads it from bytes (`specs/Later.antt`).
 //!
 //! - `to_json` gives the form of a message. It holds no float, so its text is exact. `to_text` gives that text, and makes it
-//!   entity by entity.
+//!   piece by piece, as anyone can by `push_entity`, `push_header`, `push_unknown` and `push_end` (`specs/Pieces.antt`).
 //! - `from_json` gives the message that a tree says, which is well formed, or the first fault of the tree with its path.
 //!   A tree is walked in a fixed order: at an object its keys in byte order, then its fields in the order of the table of
 //!   messages, and last its unknown fields.
@@ -57,4 +57,4 @@ mod writing;
 pub use json_fault::JsonFault;
 pub use laws::{fault_is_first, form_reads_back, moved_as_taken, no_fault_is_found};
 pub use snapshot::{from_json, to_json};
-pub use text::to_text;
+pub use text::{push_end, push_entity, push_header, push_unknown, to_text};

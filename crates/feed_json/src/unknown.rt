@@ -6,6 +6,7 @@ ghost use Rattle.std.specs.List.{AllByRecursion};
 ghost use Rattle.std.specs.Str.{is_utf8};
 ghost use Rattle.hex.specs.Hex.{encode_lower};
 ghost use Rattle.rt_wire.specs.Fields.{Group, IsBytes, wire_type};
+ghost use Rattle.rt_wire.specs.Placed as placed;
 ghost use Rattle.rt_wire.specs.Writing.{GroupIsWhole};
 ghost use Rattle.feed_values.specs.WellFormed.{IsUnknown, NumbersFit};
 ghost use Rattle.serde_json.specs.Data.{string};
@@ -26,7 +27,7 @@ use crate::reading::{natural_from, u32_from};
 use crate::writing::put_array;
 use feed_values::{Items, Raw, Slots, Unknown, UnknownValue};
 use hex::FromHexError;
-use rt_wire::{is_whole, wire_type};
+use rt_wire::{RawValue, is_whole, wire_type};
 use serde_json::{Map, Value, json};
 use std::alloc::{AllocError, Global};
 
@@ -268,26 +269,32 @@ fn hex_value(alloc: Global, bytes: &[u8]) -> Result<Value, AllocError>
     Ok(Value::String(hex::encode(alloc, bytes)?))
 }
 
-fn wire_value(alloc: Global, value: &UnknownValue) -> Result<Value, AllocError>
-    ensures { IfOk result (λ tree. view tree ≡ wire_form (unknown_value value.now)) }
+fn wire_tree(alloc: Global, value: &RawValue<'_>) -> Result<Value, AllocError>
+    ensures { IfOk result (λ tree. view tree ≡ wire_form (placed.value_of value.now)) }
 {
     match value {
-        UnknownValue::Varint(number) | UnknownValue::Fixed64(number) => Ok(Value::from(*number)),
-        UnknownValue::Len(bytes) | UnknownValue::Group(bytes) => hex_value(alloc, bytes.as_slice()),
-        UnknownValue::Fixed32(number) => Ok(Value::from(*number)),
+        RawValue::Varint(number) | RawValue::Fixed64(number) => Ok(Value::from(*number)),
+        RawValue::Len(bytes) | RawValue::Group(bytes) => hex_value(alloc, bytes),
+        RawValue::Fixed32(number) => Ok(Value::from(*number)),
     }
 }
 
-/// The form of an unknown field.
+/// The form of an unknown field with this number and value.
 #[tactic(auto, using(crate::proofs::Floats::unknown_float))]
-pub fn unknown_tree(alloc: Global, field: &Unknown) -> Result<Value, AllocError>
+pub fn field_tree(alloc: Global, number: u32, value: &RawValue<'_>) -> Result<Value, AllocError>
     ensures no_float { IfOk result (λ tree. has_float (view tree) ≡ false) }
-    ensures tree { IfOk result (λ tree. view tree ≡ unknown_form (unknown_field field.now)) }
+    ensures tree { IfOk result (λ tree. view tree ≡ unknown_form (placed.field_of number value.now)) }
 {
-    let number = field.number;
-    let value = wire_value(alloc, &field.value)?;
-    let wire = wire_type(&field.value.wire_value());
+    let wire = wire_type(value);
+    let value = wire_tree(alloc, value)?;
     json!(in alloc; {"number": number, "value": (value), "wire": wire})
+}
+
+/// The form of an unknown field.
+fn unknown_tree(alloc: Global, field: &Unknown) -> Result<Value, AllocError>
+    ensures { IfOk result (λ tree. view tree ≡ unknown_form (unknown_field field.now)) }
+{
+    field_tree(alloc, field.number, &field.value.wire_value())
 }
 
 /// The forms of unknown fields, in their order.

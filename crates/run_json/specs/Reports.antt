@@ -19,14 +19,10 @@ use Rattle.run_json.specs.JsonInputs.{input_message, input_text}
 abbrev pub shown_report : List ℕ → Report
 shown_report bytes = record { text = compact_text (form feed_message (snapshot_value bytes)) ++ 10 ∷ []; errors = []; status = answer.Clean }
 
--- the same of what a snapshot says
-abbrev pub form_report : Value feed_message → Report
-form_report v = record { text = compact_text (form feed_message v) ++ 10 ∷ []; errors = []; status = answer.Clean }
-
--- what `show` makes of what a snapshot says, or why it was refused
-abbrev pub value_report : Result (Value feed_message) Refusal → Report
-value_report (Ok v) = form_report v
-value_report (Err refusal) = refused_report refusal
+-- what `show` makes of an accepted snapshot's bytes, or of why it was refused
+abbrev pub kept_report : Result (List ℕ) Refusal → Report
+kept_report (Ok bytes) = shown_report bytes
+kept_report (Err refusal) = refused_report refusal
 
 -- ---- `encode`
 -- the report of `encode`: the canonical bytes of the snapshot that its file says, or why the file is refused

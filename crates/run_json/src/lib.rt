@@ -2,6 +2,7 @@
 //!
 //! `specs/Reports.antt` says what each writes and answers.
 //!
+//! - `sending`: the form of a kept snapshot, sent piece by piece
 //! - `showing`: the form of the snapshot in a file
 //! - `json_input_fault`, `json_input`: the snapshot that a JSON file says, or why it isn't had
 //! - `encoding`: the canonical bytes of the snapshot that a JSON file says
@@ -10,6 +11,7 @@
 mod encoding;
 mod json_input;
 mod json_input_fault;
+mod sending;
 mod showing;
 
 pub use encoding::encode;

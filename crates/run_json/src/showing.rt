@@ -1,23 +1,22 @@
 //! The command `show`.
-ghost use Rattle.std.specs.Prelude.{◌≡◌, ◌∷◌, [], IfSome, IfOk, IsErrOf, Contains};
+ghost use Rattle.std.specs.Prelude.{◌≡◌, ◌∷◌, [], IfSome, IfOk, IsErrOf, Contains, codes};
 ghost use Rattle.std.specs.FinMap.{get};
 ghost use Rattle.rt_outside.specs.Causes.{Rose};
 ghost use Rattle.rt_outside.specs.Sink.{AppendsPrefix};
 ghost use Rattle.rt_outside.specs.Store.{contents_told};
-ghost use Rattle.feed_values.specs.Views.{feed_message_value};
 ghost use Rattle.run_base.specs.Report.{file_report, snapshot_report};
-ghost use Rattle.run_base.specs.Found.{found_value};
-ghost use Rattle.run_json.specs.Reports.{form_report, shown_report, value_report};
+ghost use Rattle.run_base.specs.Found.{kept_bytes};
+ghost use Rattle.run_json.specs.Reports.{kept_report, shown_report};
 ghost use Rattle.run_base.specs.Carried.{CarriesOut, IsPut, exactly};
 ghost use Rattle.run_base.specs.Outside.{outside};
 ghost use Rattle.run_base.specs.Faults.{IsCarriedOut};
 
+use crate::sending::{send_entities, send_unknown};
 use feed_codec::Refusal;
-use feed_json::to_text;
-use feed_values::FeedMessage;
+use feed_stream::Kept;
 use rt_outside::{Files, Sink, put_all};
-use run_base::{Fault, Status, put_refused, read_snapshot, say_fault};
-use std::alloc::Global;
+use run_base::{Fault, Status, put_refused, read_kept, say_fault};
+use std::alloc::{AllocError, Global};
 
 /// Carries out `show`: the form of the snapshot in this file, as a line.
 pub fn show<F: Files, S: Sink, E: Sink>(
@@ -53,38 +52,49 @@ fn write_form<F: Files, S: Sink>(
     ensures read { IsErrOf result Fault.Read → Rose (F.state files.old).faults (F.state files.new).faults }
     ensures write { IsErrOf result Fault.Write → Rose (S.state out.old).faults (S.state out.new).faults }
 {
-    let found = read_snapshot(alloc, files, file)?;
-    put_value(alloc, &found, out)
+    let found = read_kept(alloc, files, file, None)?;
+    put_found(alloc, found, out)
 }
 
 // Writes the report on a snapshot that was accepted or refused.
-fn put_value<S: Sink>(
+fn put_found<S: Sink>(
     alloc: Global,
-    found: &Result<FeedMessage, Refusal>,
+    found: Result<Kept, Refusal>,
     out: &mut S,
 ) -> Result<Status, Fault>
-    ensures text { AppendsPrefix (S.state out.old).written (S.state out.new).written (value_report (found_value found.now)).text }
-    ensures whole { IfOk result (IsPut (value_report (found_value found.now)) (S.state out.old).written (S.state out.new).written) }
+    ensures text { AppendsPrefix (S.state out.old).written (S.state out.new).written (kept_report (kept_bytes found)).text }
+    ensures whole { IfOk result (IsPut (kept_report (kept_bytes found)) (S.state out.old).written (S.state out.new).written) }
     ensures carried_out { IfOk result IsCarriedOut }
     ensures not_read { IsErrOf result Fault.Read → ⊥ }
     ensures write { IsErrOf result Fault.Write → Rose (S.state out.old).faults (S.state out.new).faults }
 {
     match found {
-        Ok(message) => put_message(alloc, message, out),
-        Err(refusal) => put_refused(alloc, refusal, out),
+        Ok(kept) => put_form(alloc, &kept, out),
+        Err(refusal) => put_refused(alloc, &refusal, out),
     }
 }
 
-// Writes the line of a message.
-fn put_message<S: Sink>(alloc: Global, message: &FeedMessage, out: &mut S) -> Result<Status, Fault>
-    ensures text { AppendsPrefix (S.state out.old).written (S.state out.new).written (form_report (feed_message_value message.now)).text }
-    ensures whole { IfOk result (IsPut (form_report (feed_message_value message.now)) (S.state out.old).written (S.state out.new).written) }
+// What stands before all pieces.
+fn opening(alloc: Global) -> Result<Vec<u8>, AllocError>
+    ensures { IfOk result (λ held. held.items ≡ codes "{") }
+{
+    let mut held = Vec::new(alloc);
+    held.extend_from_slice(b"{")?;
+    Ok(held)
+}
+
+// Writes the line of a kept snapshot. No more than an entity is held decoded, and no more than its text and a piece.
+fn put_form<S: Sink>(alloc: Global, kept: &Kept, out: &mut S) -> Result<Status, Fault>
+    ensures text { AppendsPrefix (S.state out.old).written (S.state out.new).written (shown_report kept.now).text }
+    ensures whole { IfOk result (IsPut (shown_report kept.now) (S.state out.old).written (S.state out.new).written) }
     ensures carried_out { IfOk result IsCarriedOut }
     ensures not_read { IsErrOf result Fault.Read → ⊥ }
     ensures write { IsErrOf result Fault.Write → Rose (S.state out.old).faults (S.state out.new).faults }
 {
-    let mut text = to_text(alloc, message)?;
-    text.push_str("\n")?;
-    put_all(out, text.as_bytes())?;
+    let mut held = opening(alloc)?;
+    send_entities(alloc, kept, &mut held, out)?;
+    send_unknown(alloc, kept.bytes(), &mut held, out)?;
+    held.extend_from_slice(b"\n")?;
+    put_all(out, &held)?;
     Ok(Status::Clean)
 }
