@@ -107,7 +107,7 @@ pub fn send_entities<S: Sink>(
     send_counted::<S, Brand>(alloc, kept, held, out, Blank::new(1))
 }
 
-// Whether a field of a snapshot is of a slot.
+// Whether a field of a snapshot is of a slot: the header's, or that of its entities.
 fn is_taken(field: &RawField<'_>) -> bool
     ensures { result ≡ is_of_slot feed_message (placed_field field.now).field }
 {
