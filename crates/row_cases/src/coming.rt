@@ -34,7 +34,7 @@ pub fn standings<L: Ledger>(
     let mut list = Items::new(alloc);
     for place in 0..found.len() {
         let finding = found.get(place).clone(alloc)?;
-        list.push(Standing::new(finding, since))?;
+        list.push(Standing::new(alloc, finding, since)?)?;
     }
     Ok(list)
 }

@@ -1,11 +1,12 @@
 //! What opens and what closes.
 
-use rule_table::{Finding, Place, RuleId};
+use crate::shared::SharedFinding;
+use rule_table::{Place, RuleId};
 
 /// A finding that opened, and the number of the snapshot since which its rule stands at its place, whatever the facts were.
 #[derive(Drop)]
 pub struct Opened {
-    pub finding: Finding,
+    pub finding: SharedFinding,
     pub since: u64,
 }
 

@@ -3,6 +3,7 @@ ghost use Rattle.std.specs.Prelude.{◌≡◌, IfOk};
 ghost use Rattle.standing_walks.specs.Changes.{opened_value, closed_value, spot_of};
 
 use crate::changes::{Closed, Opened};
+use crate::shared::SharedFinding;
 use rule_table::Finding;
 use std::alloc::{AllocError, Global};
 use std::marker::Model;
@@ -11,7 +12,7 @@ use std::marker::Model;
 /// from 0.
 #[derive(Drop)]
 pub struct Standing {
-    finding: Finding,
+    finding: SharedFinding,
     since: u64,
 }
 
@@ -24,10 +25,13 @@ impl Model for Standing {
 }
 
 impl Standing {
-    pub fn new(finding: Finding, since: u64) -> Standing
-        ensures { result ≡ record { finding = finding; since = since } }
+    pub fn new(alloc: Global, finding: Finding, since: u64) -> Result<Standing, AllocError>
+        ensures { IfOk result (λ standing. standing ≡ record { finding = finding; since = since }) }
     {
-        Standing { finding, since }
+        Ok(Standing {
+            finding: SharedFinding::new(alloc, finding)?,
+            since,
+        })
     }
 
     pub fn finding(&self) -> &Finding
@@ -42,12 +46,12 @@ impl Standing {
         self.since
     }
 
-    /// It once more, as one that opened.
-    pub fn to_opened(&self, alloc: Global) -> Result<Opened, AllocError>
+    /// It once more, as one that opened. It shares the finding.
+    pub fn to_opened(&self) -> Result<Opened, AllocError>
         ensures { IfOk result (λ opened. opened_value opened ≡ self.now) }
     {
         Ok(Opened {
-            finding: self.finding.clone(alloc)?,
+            finding: self.finding.clone()?,
             since: self.since,
         })
     }

@@ -94,7 +94,7 @@ pub fn renew(
         let met = meet(old, at, &finding);
         let since = since_of(met).unwrap_or(applied);
         at = met.next;
-        list.push(Standing::new(finding, since))?;
+        list.push(Standing::new(alloc, finding, since)?)?;
     }
     Ok(Items::from_vec(list))
 }
@@ -103,7 +103,6 @@ pub fn renew(
 ///
 /// It goes once along both lists. The one error is want of memory; `out` is of no further use then.
 pub fn put_opened(
-    alloc: Global,
     before: &[Standing],
     now: &[Standing],
     out: &mut Items<Opened>,
@@ -117,7 +116,7 @@ pub fn put_opened(
         let met = meet(before, at, standing.finding());
         at = met.next;
         if !is_same(met, standing.finding()) {
-            out.push(standing.to_opened(alloc)?)?;
+            out.push(standing.to_opened()?)?;
         }
     }
     Ok(())
@@ -127,7 +126,6 @@ pub fn put_opened(
 ///
 /// It goes once along both lists. The one error is want of memory; `out` is of no further use then.
 pub fn put_closed(
-    alloc: Global,
     before: &[Standing],
     now: &[Standing],
     out: &mut Items<Closed>,

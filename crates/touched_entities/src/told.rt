@@ -42,18 +42,13 @@ impl Told {
     /// Puts in what opened and closed between a list and the one in its place.
     ///
     /// The one error is want of memory; what was put in is of no further use then.
-    pub fn put(
-        &mut self,
-        alloc: Global,
-        old: &[Standing],
-        new: &[Standing],
-    ) -> Result<(), AllocError>
+    pub fn put(&mut self, old: &[Standing], new: &[Standing]) -> Result<(), AllocError>
         requires old { IsInOrder old.now }
         requires new { IsInOrder new.now }
         ensures { OnOk result (self.new ≡ plus self.old (told_between old.now new.now)) }
     {
-        put_opened(alloc, old, new, &mut self.opened)?;
-        put_closed(alloc, old, new, &mut self.closed)?;
+        put_opened(old, new, &mut self.opened)?;
+        put_closed(old, new, &mut self.closed)?;
         Ok(())
     }
 

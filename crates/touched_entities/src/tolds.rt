@@ -74,7 +74,7 @@ fn put_first(
     ensures own { OnOk result (Each (λ e. e.0.feed ≡ key.now.feed) entities.old.entries → Each (λ e. e.0.feed ≡ key.now.feed) entities.new.entries) }
 {
     let mut told = Told::new(alloc);
-    told.put(alloc, old, new)?;
+    told.put(old, new)?;
     entities.insert(key.clone()?, told)?;
     Ok(())
 }
@@ -95,7 +95,7 @@ fn put_under(
 {
     match entities.get_mut(key) {
         Some(told) => {
-            told.put(alloc, old, new)?;
+            told.put(old, new)?;
             Ok(())
         }
         None => {
@@ -162,7 +162,7 @@ impl Tolds {
         ensures headers { OnOk result ((f : ℕ) → header_told self.new f ≡ (if feed == f then plus (header_told self.old f) (told_between old.now new.now) else header_told self.old f)) }
     {
         make_place(alloc, &mut self.feeds, feed)?;
-        self.feeds[feed as usize].header.put(alloc, old, new)?;
+        self.feeds[feed as usize].header.put(old, new)?;
         Ok(())
     }
 }
