@@ -11,7 +11,7 @@ loop-finding-preserved c =
     let i = c.loop-finding.invariant in
     record {
       renewed_is = renew_step c.args.applied c.args.old.now c.loop-finding.at c.meet-met.result.next c.in-Some.finding c.next.new.self.rest.items c.loop-finding.finding-iterator.rest.items c.loop-finding.list.items c.push.new.self.items _ _ c.unwrap_or-since.result
-          i.found_rises i.old_rises c.in-Some.ensures.steps.0 c.meet-met.ensures.met c.meet-met.ensures.after (c.unwrap_or-since.ensures ∙ ap (λ o. unwrap_or o c.args.applied) c.since_of.ensures) (c.in_ok-push.ensures.items ∙ ap (λ x. c.loop-finding.list.items ++ x ∷ []) c.new.ensures) i.renewed_is;
+          i.found_rises i.old_rises c.in-Some.ensures.steps.0 c.meet-met.ensures.met c.meet-met.ensures.after (c.unwrap_or-since.ensures ∙ ap (λ o. unwrap_or o c.args.applied) c.since_of.ensures) (c.in_ok-push.ensures.items ∙ ap (λ x. c.loop-finding.list.items ++ x ∷ []) c.in_ok-new.ensures) i.renewed_is;
       old_rises = left_rises c.args.old.now c.loop-finding.at c.meet-met.result.next c.in-Some.finding i.old_rises c.meet-met.ensures.after;
       found_rises = (subst (λ (xs : List Found). Rises found_cmp xs) c.in-Some.ensures.steps.0 i.found_rises).1;
       within = c.meet-met.ensures.within;
