@@ -20,10 +20,10 @@ pub record IsGathered (found : Found) (gathered : Gathered) : Type 0 where
   pub feeds_are : map snapshot_value gathered.feeds ≡ accepted_values found
   pub refused_are : gathered.refused.items ≡ refused_lines 0 found
 
--- what was found in the file of a number was added
-pub record Adds (number : ℕ) (one : Result (Value feed_message) Refusal) (before after : Gathered) : Type 0 where
-  pub feeds_are : map snapshot_value after.feeds ≡ map snapshot_value before.feeds ++ accepted_values (one ∷ [])
-  pub refused_are : after.refused.items ≡ before.refused.items ++ refused_lines number (one ∷ [])
+-- what was found in the file of a number, its bytes or a refusal, was added
+pub record Adds (number : ℕ) (one : Result (List ℕ) Refusal) (before after : Gathered) : Type 0 where
+  pub feeds_are : map snapshot_value after.feeds ≡ map snapshot_value before.feeds ++ accepted_values (value_said one ∷ [])
+  pub refused_are : after.refused.items ≡ before.refused.items ++ refused_lines number (value_said one ∷ [])
 
 -- the report on what was gathered, where there are lines of refused ones or aren't
 abbrev pub report_on : List (List ℕ) → List ℕ → Report

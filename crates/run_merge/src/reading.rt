@@ -3,7 +3,7 @@ ghost use Rattle.std.specs.Prelude.{◌≡◌, ◌≤◌, ◌+◌, map, length, 
 ghost use Rattle.std.specs.FinMap.{get};
 ghost use Rattle.rt_outside.specs.Causes.{Rose};
 ghost use Rattle.rt_outside.specs.Store.{contents_told};
-ghost use Rattle.run_base.specs.Found.{snapshot_in};
+ghost use Rattle.run_base.specs.Found.{bytes_in};
 ghost use Rattle.run_base.specs.Inputs.{FailsAt, TellsInput};
 ghost use Rattle.run_merge.specs.Gathering.{Adds, IsGathered};
 ghost use Rattle.run_merge.specs.Merged.{found_in};
@@ -23,7 +23,7 @@ fn add_file<F: Files>(
     gathered: &mut Gathered,
 ) -> Result<(), Fault>
     ensures adds { IfSome (contents_told (F.state files.old).told) (λ held.
-        OnOk result (Adds number (snapshot_in (get held name.now)) gathered.old gathered.new)) }
+        OnOk result (Adds number (bytes_in (get held name.now)) gathered.old gathered.new)) }
     ensures few { OnOk result (length gathered.new.feeds ≤ length gathered.old.feeds + 1) }
     ensures contents { contents_told (F.state files.new).told ≡ contents_told (F.state files.old).told }
     ensures asked { IfSome (F.state files.new).asked (λ last. last ≡ name.now) }
