@@ -1,6 +1,7 @@
 -- The union, feed by feed and entity by entity: its entities and its bytes.
 use Rattle.std.proofs.Common.{◌≡◌, ℕ, suc, ◌+◌, ◌≤◌, ◌<◌, ℤ, List, [], ◌∷◌, ◌++◌, map, length, take, drop, get_or, slice_get, None, Some, refl, subst, ap, sym, ◌∙◌, arith, append-nil, append_assoc, length-append}
 use Prim.Native.String.{String}
+use Rattle.std.specs.Prelude.{Result, Ok, Err, OnOk, is_ok, if◌then◌else◌}
 use Rattle.std.specs.declared.option.Option.{Option}
 use Rattle.std.specs.List.{flat_map}
 use Rattle.std.proofs.lemmas.Grind.{flat_map-append}
@@ -19,7 +20,7 @@ use Rattle.feed_values.specs.declared.required.Required.{Required}
 use Rattle.feed_values.specs.declared.required.Required.TheVariants as required
 use Rattle.feed_values.proofs.SnapshotFields.{snapshot_is_its_fields}
 use Rattle.feed_merge.specs.Spelled.{entities_spelled, entity_spelled}
-use Rattle.feed_merge.specs.Union.{prefixed, entities_in, united_from, greatest_stamp, headed, union_header, united}
+use Rattle.feed_merge.specs.Union.{prefix, renamed, prefixed, entities_in, united_from, greatest_stamp, headed, union_header, united}
 
 -- ---- entities
 -- of feeds behind others
@@ -99,6 +100,12 @@ header_long : length (union_bytes None []) ≡ 9
 unfolding spell minimal minimal_for
 header_long = refl
 
+pub header_within : (e : Value entity) (bytes : List ℕ) → bytes ≡ union_bytes None (e ∷ []) → 9 ≤ length bytes
+header_within e bytes is =
+    let long : length bytes ≡ length (union_bytes None []) + length (entities_spelled (e ∷ [])) =
+    ap length (is ∙ behind_header None (e ∷ [])) ∙ length-append (union_bytes None []) (entities_spelled (e ∷ [])) in
+    omega (arith, long, header_long)
+
 -- what stands behind the header of a union that has it alone
 pub alone : (e : Value entity) → drop 9 (union_bytes None (e ∷ [])) ≡ entity_spelled e
 alone e = ap (drop 9) (behind_header None (e ∷ [])) ∙ drop_at (union_bytes None []) (entities_spelled (e ∷ [])) 9 header_long ∙ append-nil (entity_spelled e)
@@ -119,12 +126,13 @@ module _ (number : ℕ) (kept : List ℕ) where
       ∙ ap (λ q. kept_front i ++ prefixed number (entity_of q) ∷ []) (get_or_from_slice_get (entity_payloads kept) i p p (sym at))
 
   -- one more is written
-  pub kept_next : (i : ℕ) (p : List ℕ) (e : Value entity) (start old new : List ℕ) → i < length (entity_payloads kept) → Some p ≡ slice_get (entity_payloads kept) i → e ≡ prefixed number (entity_of p) →
-      old ≡ start ++ entities_spelled (kept_front i) → new ≡ old ++ entity_spelled e → new ≡ start ++ entities_spelled (kept_front (i + 1))
-  kept_next i p e start old new l at is before next =
-      next ∙ ap (λ xs. xs ++ entity_spelled e) before
-      ∙ append_assoc start (entities_spelled (kept_front i)) (entity_spelled e)
-      ∙ ap (λ x. start ++ (entities_spelled (kept_front i) ++ entity_spelled x)) is
+  pub kept_next : (i : ℕ) (p text : List ℕ) (e : Value entity) (start old new : List ℕ) → i < length (entity_payloads kept) → Some p ≡ slice_get (entity_payloads kept) i →
+      text ≡ prefix number → e ≡ entity_of p → old ≡ start ++ entities_spelled (kept_front i) → new ≡ old ++ entity_spelled (renamed text e) → new ≡ start ++ entities_spelled (kept_front (i + 1))
+  kept_next i p text e start old new l at named is before next =
+      next ∙ ap (λ xs. xs ++ entity_spelled (renamed text e)) before
+      ∙ append_assoc start (entities_spelled (kept_front i)) (entity_spelled (renamed text e))
+      ∙ ap (λ t. start ++ (entities_spelled (kept_front i) ++ entity_spelled (renamed t e))) named
+      ∙ ap (λ x. start ++ (entities_spelled (kept_front i) ++ entity_spelled (prefixed number x))) is
       ∙ ap (λ xs. start ++ (entities_spelled (kept_front i) ++ xs)) (sym (append-nil (entity_spelled (prefixed number (entity_of p)))))
       ∙ ap (λ xs. start ++ xs) (sym (flat_map-append entity_spelled (kept_front i) (prefixed number (entity_of p) ∷ [])))
       ∙ ap (λ es. start ++ entities_spelled es) (sym (kept_more i p l at))
@@ -172,11 +180,23 @@ module _ (stamp : Option ℤ) (feeds : List (List ℕ)) where
           let l : length all ≡ length (union_bytes stamp done) + length (entities_spelled es) = ap length (e ∙ sym (union_more stamp done es)) ∙ length-append (union_bytes stamp done) (entities_spelled es) in
           omega (arith, l)
 
-  -- so where those are too many, these are
-  pub too_large : (i : ℕ) (bytes : List ℕ) → stamp ≡ greatest_stamp (map snapshot_value feeds) → bytes ≡ union_bytes stamp (front snapshot_value feeds i) →
-      snapshot_limit < length bytes → snapshot_limit < length (canonical feed_message (united (map snapshot_value feeds)))
-  too_large i bytes stamped is l =
-      subst (λ s. snapshot_limit < length (union_bytes s (united_from 0 (map snapshot_value feeds)))) stamped (above (front_fits i))
-    where
-      above : length (union_bytes stamp (front snapshot_value feeds i)) ≤ length (union_bytes stamp (united_from 0 (map snapshot_value feeds))) → snapshot_limit < length (union_bytes stamp (united_from 0 (map snapshot_value feeds)))
-      above r = let long : length bytes ≡ length (union_bytes stamp (front snapshot_value feeds i)) = ap length is in omega (arith, l, r, long)
+-- so where those are too many, these are
+pub too_large : (feeds items : List (List ℕ)) (i : ℕ) (bytes : List ℕ) → items ≡ feeds → bytes ≡ union_bytes (greatest_stamp (map snapshot_value feeds)) (front snapshot_value items i) →
+    snapshot_limit < length bytes → snapshot_limit < length (canonical feed_message (united (map snapshot_value feeds)))
+too_large feeds items i bytes same is l = above (front_fits (greatest_stamp (map snapshot_value feeds)) feeds i)
+  where
+    above : length (union_bytes (greatest_stamp (map snapshot_value feeds)) (front snapshot_value feeds i)) ≤ length (canonical feed_message (united (map snapshot_value feeds))) →
+        snapshot_limit < length (canonical feed_message (united (map snapshot_value feeds)))
+    above r =
+        let long : length bytes ≡ length (union_bytes (greatest_stamp (map snapshot_value feeds)) (front snapshot_value feeds i)) =
+        ap length is ∙ ap (λ xs. length (union_bytes (greatest_stamp (map snapshot_value feeds)) (front snapshot_value xs i))) same in
+        omega (arith, l, r, long)
+
+-- what a call leaves where it took effect
+pub if_taken : {A E X : Type 0} (r : Result A E) (x a b : X) → x ≡ (if is_ok r then a else b) → OnOk r (x ≡ a)
+if_taken (Ok v) x a b h = h
+if_taken (Err e) x a b h = tt
+
+-- a fault that is handed on is the one that came
+pub handed_on : {E T U : Type 0} (s : Result U E) (came told fault : E) → s ≡ Err told → told ≡ came → s ≡ Err fault → (let q : Result T E = Err came in q) ≡ Err fault
+handed_on s came told fault now same is = cc

@@ -1,6 +1,5 @@
 //! The entities of a kept snapshot, as they are written in the union.
-ghost use Rattle.std.specs.Prelude.{◌≡◌, ◌++◌, ◌∷◌, [], None, IfOk, OnOk, IfErr, map, length, ◌<◌, ◌≤◌};
-ghost use Rattle.std.specs.Str.{IsUtf8};
+ghost use Rattle.std.specs.Prelude.{◌≡◌, ◌++◌, ◌∷◌, [], None, Err, IfOk, OnOk, IfErr, map, length, ◌<◌, ◌≤◌};
 ghost use Rattle.feed_values.specs.Accepted.{snapshot_limit};
 ghost use Rattle.feed_values.specs.Canonical.{canonical};
 ghost use Rattle.feed_values.specs.Messages.{entity, feed_message};
@@ -9,7 +8,7 @@ ghost use Rattle.feed_values.specs.Views.{entity_value};
 ghost use Rattle.feed_values.specs.WellFormed.{IsWellFormed};
 ghost use Rattle.feed_codec.specs.Refusal.{entity_fault};
 ghost use Rattle.feed_merge.specs.Spelled.{entities_spelled, entity_spelled};
-ghost use Rattle.feed_merge.specs.Union.{entities_in, feed_limit, headed, prefixed, renamed};
+ghost use Rattle.feed_merge.specs.Union.{entities_in, headed, prefixed, renamed};
 ghost use Rattle.feed_merge.specs.declared.merge_fault.MergeFault.TheVariants.{TooLarge};
 
 use crate::merge_fault::MergeFault;
@@ -37,24 +36,16 @@ pub fn within_limit(bytes: &[u8]) -> Result<(), MergeFault>
     Ok(())
 }
 
-// The entity that a payload means, with this before its id. What decoding it counts is of no account here.
-fn renamed_entity<L: Ledger>(
-    alloc: Global,
-    prefix: &str,
-    payload: &[u8],
-    blank: Blank,
-) -> Result<Entity, AllocError>
+// The entity that a payload means. What decoding it counts is of no account here.
+fn decoded<L: Ledger>(alloc: Global, payload: &[u8], blank: Blank) -> Result<Entity, AllocError>
     requires passes { entity_fault payload.now ≡ None }
-    requires text { IsUtf8 prefix.now }
     requires name { blank.name ≡ L.name }
     requires parts { blank.parts ≡ L.parts }
     requires one { blank.parts ≡ 1 }
-    ensures value { IfOk result (λ held. entity_value held ≡ renamed prefix.now (entity_of payload.now)) }
+    ensures value { IfOk result (λ held. entity_value held ≡ entity_of payload.now) }
     ensures well_formed { IfOk result (λ held. IsWellFormed entity (entity_value held)) }
 {
-    let mut held = decode_entity(alloc, payload, &mut Steps::<L>::new(blank))?;
-    rename(alloc, prefix, &mut held)?;
-    Ok(held)
+    decode_entity(alloc, payload, &mut Steps::<L>::new(blank))
 }
 
 // The bytes of a union without a timestamp that has one entity.
@@ -68,11 +59,17 @@ fn bytes_of_one(alloc: Global, held: Entity) -> Result<Vec<u8>, AllocError>
     encode(alloc, &message)
 }
 
-// Appends an entity as it is written in a snapshot.
-fn put_entity(alloc: Global, held: Entity, bytes: &mut Vec<u8>) -> Result<(), AllocError>
+// Appends an entity as it is written in a snapshot, with this before its id.
+fn put_entity(
+    alloc: Global,
+    prefix: &str,
+    mut held: Entity,
+    bytes: &mut Vec<u8>,
+) -> Result<(), AllocError>
     requires { IsWellFormed entity (entity_value held) }
-    ensures { OnOk result (bytes.new.items ≡ bytes.old.items ++ entity_spelled (entity_value held)) }
+    ensures { OnOk result (bytes.new.items ≡ bytes.old.items ++ entity_spelled (renamed prefix.now (entity_value held))) }
 {
+    rename(alloc, prefix, &mut held)?;
     let more = bytes_of_one(alloc, held)?;
     bytes.extend_from_slice(&more[HEADER..])
 }
@@ -85,20 +82,14 @@ pub fn put_entities(
     feed: &Kept,
     bytes: &mut Vec<u8>,
 ) -> Result<(), MergeFault>
-    requires { number < feed_limit }
     ensures ok { OnOk result (bytes.new.items ≡ bytes.old.items ++ entities_spelled (map (prefixed number) (entities_in (snapshot_value feed.now)))) }
-    ensures too_large { IfErr result (λ e. e ≡ TooLarge
-        → snapshot_limit < length (bytes.old.items ++ entities_spelled (map (prefixed number) (entities_in (snapshot_value feed.now))))) }
+    ensures too_large { result ≡ Err TooLarge
+        → snapshot_limit < length (bytes.old.items ++ entities_spelled (map (prefixed number) (entities_in (snapshot_value feed.now)))) }
 {
     let prefix = prefix(alloc, number)?;
     for place in 0..feed.len() {
-        let held = renamed_entity::<Brand>(
-            alloc,
-            prefix.as_str(),
-            feed.entity(place),
-            Blank::new(1),
-        )?;
-        put_entity(alloc, held, bytes)?;
+        let held = decoded::<Brand>(alloc, feed.entity(place), Blank::new(1))?;
+        put_entity(alloc, prefix.as_str(), held, bytes)?;
         within_limit(bytes)?;
     }
     Ok(())

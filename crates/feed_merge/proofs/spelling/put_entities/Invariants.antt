@@ -13,5 +13,5 @@ invariant-loop-place l = record {
 }
 
 -- what decoding counts is counted by a ledger of the call's own
-abbrev pub ghosts-renamed_entity : goal.ghosts-renamed_entity
-ghosts-renamed_entity a = record { name = a.blank.name; parts = a.blank.parts }
+abbrev pub ghosts-decoded : goal.ghosts-decoded
+ghosts-decoded a = record { name = a.blank.name; parts = a.blank.parts }
