@@ -12,10 +12,9 @@ use Rattle.feed_values.specs.Schema.{Value}
 use Rattle.feed_values.specs.Messages.{feed_message, feed_header, entity}
 use Rattle.feed_values.specs.Snapshot.{timestamp_of}
 use Rattle.feed_values.specs.declared.feed_message.FeedMessage.{FeedMessage}
-use Rattle.feed_values.specs.declared.entity.Entity.{Entity}
-use Rattle.feed_values.specs.Views.{entity_value, feed_message_value}
+use Rattle.feed_values.specs.Views.{feed_message_value}
 use Rattle.feed_values.specs.WellFormed.{InRange, IsWellFormed, IsWellFormedFeed}
-use Rattle.feed_merge.specs.Union.{feed_limit, prefix, prefixed, entities_in, united_from, stamps_in, greatest_stamp, union_header, headed, united}
+use Rattle.feed_merge.specs.Union.{feed_limit, prefix, renamed, prefixed, entities_in, united_from, stamps_in, greatest_stamp, union_header, headed, united}
 use Rattle.feed_merge.proofs.Stamps.{one_given}
 
 -- ---- texts
@@ -29,12 +28,15 @@ version_ascii (suc zero) = omega arith
 version_ascii (suc (suc zero)) = omega arith
 version_ascii (suc (suc (suc i))) = omega arith
 
-prefix_text : (f : ℕ) → f < feed_limit → IsUtf8 (prefix f)
+pub prefix_text : (f : ℕ) → f < feed_limit → IsUtf8 (prefix f)
 prefix_text f l = IsUtf8-from_ascii (prefix f) (IsAscii-append (decimal f) (codes ":") (IsAscii-decimal f (omega arith)) colon_ascii)
 
 -- ---- entities
+pub renamed_formed : (text : List ℕ) (e : Value entity) → IsUtf8 text → IsWellFormed entity e → IsWellFormed entity (renamed text e)
+renamed_formed text e utf8 fit = (IsUtf8-append text e.0 utf8 fit.0, fit.1)
+
 entity_formed : (f : ℕ) (e : Value entity) → f < feed_limit → IsWellFormed entity e → IsWellFormed entity (prefixed f e)
-entity_formed f e l fit = (IsUtf8-append (prefix f) e.0 (prefix_text f l) fit.0, fit.1)
+entity_formed f e l fit = renamed_formed (prefix f) e (prefix_text f l) fit
 
 abbrev pub AllFormed : List (Value entity) → Type 0
 AllFormed es = AllByRecursion (IsWellFormed entity) es
@@ -97,9 +99,3 @@ messages_few ms few = let same : length (map feed_message_value ms) ≡ length m
 pub merged_formed : (ms : List FeedMessage) (es : List (Value entity)) → length ms ≤ feed_limit → AllByRecursion IsWellFormedFeed (map feed_message_value ms) →
     es ≡ united_from 0 (map feed_message_value ms) → AllFormed es
 merged_formed ms es few fit is = subst AllFormed (sym is) (union_entities_formed (map feed_message_value ms) (messages_few ms few) fit)
-
--- the entities of one feed, appended to none
-pub feed_formed : (f : ℕ) (v : Value feed_message) (none new : List Entity) → f < feed_limit → IsWellFormedFeed v → none ≡ [] →
-    map entity_value new ≡ map entity_value none ++ map (prefixed f) (entities_in v) → AllFormed (map entity_value new)
-feed_formed f v none new l fit empty is =
-    subst AllFormed (sym (is ∙ ap (λ (es : List Entity). map entity_value es ++ map (prefixed f) (entities_in v)) empty)) (entities_formed f (entities_in v) l (held_formed v fit))

@@ -1,21 +1,26 @@
--- The union, feed by feed: its entities and its bytes.
-use Rattle.std.proofs.Common.{◌≡◌, ℕ, suc, ◌+◌, ◌-◌, ◌≤◌, ◌<◌, ℤ, List, [], ◌∷◌, ◌++◌, map, length, take, drop, get_or, subst, ap, sym, ◌∙◌, arith, append-nil, append_assoc, length-append}
+-- The union, feed by feed and entity by entity: its entities and its bytes.
+use Rattle.std.proofs.Common.{◌≡◌, ℕ, suc, ◌+◌, ◌≤◌, ◌<◌, ℤ, List, [], ◌∷◌, ◌++◌, map, length, take, drop, get_or, slice_get, None, Some, refl, subst, ap, sym, ◌∙◌, arith, append-nil, append_assoc, length-append}
 use Prim.Native.String.{String}
+use Rattle.std.specs.Prelude.{Result, Ok, Err, OnOk, is_ok, if◌then◌else◌}
 use Rattle.std.specs.declared.option.Option.{Option}
 use Rattle.std.specs.List.{flat_map}
 use Rattle.std.proofs.lemmas.Grind.{flat_map-append}
-use Rattle.std.proofs.lemmas.List.{drop_at, take_rest, map_more, map-append, length-map, length-take-le, take-append-drop}
+use Rattle.std.proofs.lemmas.List.{drop_at, map_more, map-append, length-map, length-take-le, take_all, take-append-drop}
+use Rattle.std.proofs.lemmas.Option.{get_or_from_slice_get}
 use Rattle.rt_wire.specs.Fields.{Len}
+use Rattle.rt_wire.specs.Varint.{minimal, minimal_for}
+use Rattle.rt_wire.specs.Writing.{spell}
 use Rattle.feed_values.specs.Schema as schema
 use Rattle.feed_values.specs.Schema.{Schema, Value}
 use Rattle.feed_values.specs.Accepted.{snapshot_limit}
 use Rattle.feed_values.specs.Canonical.{canonical, spelled_slot}
 use Rattle.feed_values.specs.Messages.{feed_message, feed_header, entity}
-use Rattle.feed_values.specs.declared.feed_message.FeedMessage.{FeedMessage}
+use Rattle.feed_values.specs.Snapshot.{entity_of, entity_payloads, snapshot_value}
 use Rattle.feed_values.specs.declared.required.Required.{Required}
 use Rattle.feed_values.specs.declared.required.Required.TheVariants as required
-use Rattle.feed_values.specs.Views.{feed_message_value}
-use Rattle.feed_merge.specs.Union.{prefixed, entities_in, united_from, greatest_stamp, headed, union_header, united}
+use Rattle.feed_values.proofs.SnapshotFields.{snapshot_is_its_fields}
+use Rattle.feed_merge.specs.Spelled.{entities_spelled, entity_spelled}
+use Rattle.feed_merge.specs.Union.{prefix, renamed, prefixed, entities_in, united_from, greatest_stamp, headed, union_header, united}
 
 -- ---- entities
 -- of feeds behind others
@@ -32,33 +37,34 @@ united_append g (w ∷ us) vs =
     next : (n k : ℕ) → (n + 1) + k ≡ n + suc k
     next n k = omega arith
 
--- of the first feeds of some
-abbrev pub front : List FeedMessage → ℕ → List (Value entity)
-front ms i = united_from 0 (map feed_message_value (take i ms))
+-- of the first feeds of some, by what each says
+abbrev pub front : {A : Type 0} → (A → Value feed_message) → List A → ℕ → List (Value entity)
+front says xs i = united_from 0 (map says (take i xs))
 
--- and of one feed more
-pub front_more : (ms : List FeedMessage) (i : ℕ) (m : FeedMessage) → i < length ms → front ms (i + 1) ≡ front ms i ++ map (prefixed i) (entities_in (feed_message_value (get_or ms i m)))
-front_more ms i m l =
-    ap (united_from 0) (map_more feed_message_value ms i m l)
-    ∙ united_append 0 (map feed_message_value (take i ms)) (feed_message_value (get_or ms i m) ∷ [])
-    ∙ ap (λ xs. front ms i ++ xs) (append-nil (map (prefixed (0 + length (map feed_message_value (take i ms)))) (entities_in (feed_message_value (get_or ms i m)))))
-    ∙ ap (λ n. front ms i ++ map (prefixed n) (entities_in (feed_message_value (get_or ms i m)))) (number (length (map feed_message_value (take i ms))) (length-map (take i ms) feed_message_value ∙ length-take-le i ms (omega arith)))
-  where
-    number : (n : ℕ) → n ≡ i → 0 + n ≡ i
-    number n e = omega arith
+module _ {A : Type 0} (says : A → Value feed_message) (xs : List A) where
+  -- and of one feed more
+  front_more : (i : ℕ) (x : A) → i < length xs → front says xs (i + 1) ≡ front says xs i ++ map (prefixed i) (entities_in (says (get_or xs i x)))
+  front_more i x l =
+      ap (united_from 0) (map_more says xs i x l)
+      ∙ united_append 0 (map says (take i xs)) (says (get_or xs i x) ∷ [])
+      ∙ ap (λ es. front says xs i ++ es) (append-nil (map (prefixed (0 + length (map says (take i xs)))) (entities_in (says (get_or xs i x)))))
+      ∙ ap (λ n. front says xs i ++ map (prefixed n) (entities_in (says (get_or xs i x)))) (number (length (map says (take i xs))) (length-map (take i xs) says ∙ length-take-le i xs (omega arith)))
+    where
+      number : (n : ℕ) → n ≡ i → 0 + n ≡ i
+      number n e = omega arith
 
-pub entities_next : (ms : List FeedMessage) (i : ℕ) (m : FeedMessage) (old new : List (Value entity)) → i < length ms → m ≡ get_or ms i m → old ≡ front ms i →
-    new ≡ old ++ map (prefixed i) (entities_in (feed_message_value m)) → new ≡ front ms (i + 1)
-entities_next ms i m old new l is before e =
-    e ∙ ap (λ xs. xs ++ map (prefixed i) (entities_in (feed_message_value m))) before
-    ∙ ap (λ (x : FeedMessage). front ms i ++ map (prefixed i) (entities_in (feed_message_value x))) is
-    ∙ sym (front_more ms i m l)
+  pub entities_next : (i : ℕ) (x : A) (old new : List (Value entity)) → i < length xs → x ≡ get_or xs i x → old ≡ front says xs i →
+      new ≡ old ++ map (prefixed i) (entities_in (says x)) → new ≡ front says xs (i + 1)
+  entities_next i x old new l is before e =
+      e ∙ ap (λ es. es ++ map (prefixed i) (entities_in (says x))) before
+      ∙ ap (λ y. front says xs i ++ map (prefixed i) (entities_in (says y))) is
+      ∙ sym (front_more i x l)
 
-front_rest : (ms : List FeedMessage) (i : ℕ) → united_from 0 (map feed_message_value ms) ≡ front ms i ++ united_from (0 + length (map feed_message_value (take i ms))) (map feed_message_value (drop i ms))
-front_rest ms i =
-    ap (λ xs. united_from 0 (map feed_message_value xs)) (sym (take-append-drop i ms))
-    ∙ ap (united_from 0) (map-append feed_message_value (take i ms) (drop i ms))
-    ∙ united_append 0 (map feed_message_value (take i ms)) (map feed_message_value (drop i ms))
+  front_rest : (i : ℕ) → united_from 0 (map says xs) ≡ front says xs i ++ united_from (0 + length (map says (take i xs))) (map says (drop i xs))
+  front_rest i =
+      ap (λ ys. united_from 0 (map says ys)) (sym (take-append-drop i xs))
+      ∙ ap (united_from 0) (map-append says (take i xs) (drop i xs))
+      ∙ united_append 0 (map says (take i xs)) (map says (drop i xs))
 
 -- ---- bytes
 -- of any message with a required slot 1 and a repeated slot 2
@@ -72,52 +78,125 @@ module _ (name other : String) (why : Required) (m e : Schema) (head : Value m) 
   abbrev items : List (Value e) → List ℕ
   items es = flat_map (λ w. spelled_slot 2 (Len (canonical e w))) es
 
-  pub more : (done es : List (Value e)) → bytes done ++ drop (length (bytes [])) (bytes es) ≡ bytes (done ++ es)
-  more done es =
-      ap (λ xs. bytes done ++ xs) (drop_at first (items es ++ []) (length (bytes [])) (ap length (sym (append-nil first))))
-      ∙ ap (λ xs. (first ++ xs) ++ (items es ++ [])) (append-nil (items done))
-      ∙ append_assoc first (items done) (items es ++ [])
-      ∙ ap (λ xs. first ++ xs) (sym (append_assoc (items done) (items es) []))
-      ∙ ap (λ xs. first ++ (xs ++ [])) (sym (flat_map-append (λ w. spelled_slot 2 (Len (canonical e w))) done es))
+  pub behind : (es : List (Value e)) → bytes es ≡ bytes [] ++ items es
+  behind es = ap (λ xs. first ++ xs) (append-nil (items es)) ∙ ap (λ xs. xs ++ items es) (sym (append-nil first))
 
 -- of a union with this timestamp and these entities
 abbrev pub union_bytes : Option ℤ → List (Value entity) → List ℕ
 union_bytes stamp es = canonical feed_message (headed stamp es)
 
-bytes_more : (stamp : Option ℤ) (done es : List (Value entity)) → union_bytes stamp done ++ drop (length (union_bytes stamp [])) (union_bytes stamp es) ≡ union_bytes stamp (done ++ es)
-bytes_more stamp = more "header" "entity" required.Header feed_header entity (union_header stamp)
+behind_header : (stamp : Option ℤ) (es : List (Value entity)) → union_bytes stamp es ≡ union_bytes stamp [] ++ entities_spelled es
+behind_header stamp = behind "header" "entity" required.Header feed_header entity (union_header stamp)
 
--- the bytes of the first feeds, and then those of one more without the header
-bytes_next : (stamp : Option ℤ) (ms : List FeedMessage) (i : ℕ) (m : FeedMessage) → i < length ms →
-    union_bytes stamp (front ms i) ++ drop (length (union_bytes stamp [])) (union_bytes stamp (map (prefixed i) (entities_in (feed_message_value (get_or ms i m))))) ≡ union_bytes stamp (front ms (i + 1))
-bytes_next stamp ms i m l = bytes_more stamp (front ms i) (map (prefixed i) (entities_in (feed_message_value (get_or ms i m)))) ∙ ap (union_bytes stamp) (sym (front_more ms i m l))
+union_more : (stamp : Option ℤ) (done es : List (Value entity)) → union_bytes stamp done ++ entities_spelled es ≡ union_bytes stamp (done ++ es)
+union_more stamp done es =
+    ap (λ xs. xs ++ entities_spelled es) (behind_header stamp done)
+    ∙ append_assoc (union_bytes stamp []) (entities_spelled done) (entities_spelled es)
+    ∙ ap (λ xs. union_bytes stamp [] ++ xs) (sym (flat_map-append entity_spelled done es))
+    ∙ sym (behind_header stamp (done ++ es))
 
--- the same as they are written: those of one more are what stands in a buffer behind the length of the header's
-module _ (stamp : Option ℤ) (ms : List FeedMessage) (i : ℕ) (m : FeedMessage) (l : i < length ms) (is : m ≡ get_or ms i m) (header more buffer old : List ℕ) (from : ℕ)
-    (head : header ≡ union_bytes stamp []) (part : more ≡ union_bytes stamp (map (prefixed i) (entities_in (feed_message_value m)))) (before : old ≡ union_bytes stamp (front ms i))
-    (same : buffer ≡ more) (behind : from ≡ length header) where
-  rest : take (length buffer - from) (drop from buffer) ≡ drop (length (union_bytes stamp [])) (union_bytes stamp (map (prefixed i) (entities_in (feed_message_value (get_or ms i m)))))
-  rest =
-      take_rest buffer from ∙ ap (drop from) (same ∙ part ∙ ap (λ (x : FeedMessage). union_bytes stamp (map (prefixed i) (entities_in (feed_message_value x)))) is)
-      ∙ ap (λ n. drop n (union_bytes stamp (map (prefixed i) (entities_in (feed_message_value (get_or ms i m)))))) (behind ∙ ap length head)
+-- ---- one entity
+header_long : length (union_bytes None []) ≡ 9
+unfolding spell minimal minimal_for
+header_long = refl
 
-  pub written_next : (new : List ℕ) → new ≡ old ++ take (length buffer - from) (drop from buffer) → new ≡ union_bytes stamp (front ms (i + 1))
-  written_next new e = e ∙ ap (λ xs. xs ++ take (length buffer - from) (drop from buffer)) before ∙ ap (λ xs. union_bytes stamp (front ms i) ++ xs) rest ∙ bytes_next stamp ms i m l
+pub header_within : (e : Value entity) (bytes : List ℕ) → bytes ≡ union_bytes None (e ∷ []) → 9 ≤ length bytes
+header_within e bytes is =
+    let long : length bytes ≡ length (union_bytes None []) + length (entities_spelled (e ∷ [])) =
+    ap length (is ∙ behind_header None (e ∷ [])) ∙ length-append (union_bytes None []) (entities_spelled (e ∷ [])) in
+    omega (arith, long, header_long)
 
--- they aren't more than those of all
-pub bytes_front : (stamp : Option ℤ) (ms : List FeedMessage) (i : ℕ) → length (union_bytes stamp (front ms i)) ≤ length (union_bytes stamp (united_from 0 (map feed_message_value ms)))
-bytes_front stamp ms i = rises (front ms i) _ (union_bytes stamp (united_from 0 (map feed_message_value ms))) (ap (union_bytes stamp) (front_rest ms i))
-  where
-    rises : (done es : List (Value entity)) (all : List ℕ) → all ≡ union_bytes stamp (done ++ es) → length (union_bytes stamp done) ≤ length all
-    rises done es all e =
-        let l : length all ≡ length (union_bytes stamp done) + length (drop (length (union_bytes stamp [])) (union_bytes stamp es)) =
-        ap length (e ∙ sym (bytes_more stamp done es)) ∙ length-append (union_bytes stamp done) (drop (length (union_bytes stamp [])) (union_bytes stamp es)) in
-        omega (arith, l)
+-- what stands behind the header of a union that has it alone
+pub alone : (e : Value entity) → drop 9 (union_bytes None (e ∷ [])) ≡ entity_spelled e
+alone e = ap (drop 9) (behind_header None (e ∷ [])) ∙ drop_at (union_bytes None []) (entities_spelled (e ∷ [])) 9 header_long ∙ append-nil (entity_spelled e)
+
+-- ---- the entities of a kept snapshot
+module _ (number : ℕ) (kept : List ℕ) where
+  -- the first of them, as they stand in the union
+  abbrev pub kept_front : ℕ → List (Value entity)
+  kept_front i = map (prefixed number) (map entity_of (take i (entity_payloads kept)))
+
+  abbrev pub kept_all : List (Value entity)
+  kept_all = map (prefixed number) (entities_in (snapshot_value kept))
+
+  kept_more : (i : ℕ) (p : List ℕ) → i < length (entity_payloads kept) → Some p ≡ slice_get (entity_payloads kept) i → kept_front (i + 1) ≡ kept_front i ++ prefixed number (entity_of p) ∷ []
+  kept_more i p l at =
+      ap (map (prefixed number)) (map_more entity_of (entity_payloads kept) i p l)
+      ∙ map-append (prefixed number) (map entity_of (take i (entity_payloads kept))) (entity_of (get_or (entity_payloads kept) i p) ∷ [])
+      ∙ ap (λ q. kept_front i ++ prefixed number (entity_of q) ∷ []) (get_or_from_slice_get (entity_payloads kept) i p p (sym at))
+
+  -- one more is written
+  pub kept_next : (i : ℕ) (p text : List ℕ) (e : Value entity) (start old new : List ℕ) → i < length (entity_payloads kept) → Some p ≡ slice_get (entity_payloads kept) i →
+      text ≡ prefix number → e ≡ entity_of p → old ≡ start ++ entities_spelled (kept_front i) → new ≡ old ++ entity_spelled (renamed text e) → new ≡ start ++ entities_spelled (kept_front (i + 1))
+  kept_next i p text e start old new l at named is before next =
+      next ∙ ap (λ xs. xs ++ entity_spelled (renamed text e)) before
+      ∙ append_assoc start (entities_spelled (kept_front i)) (entity_spelled (renamed text e))
+      ∙ ap (λ t. start ++ (entities_spelled (kept_front i) ++ entity_spelled (renamed t e))) named
+      ∙ ap (λ x. start ++ (entities_spelled (kept_front i) ++ entity_spelled (prefixed number x))) is
+      ∙ ap (λ xs. start ++ (entities_spelled (kept_front i) ++ xs)) (sym (append-nil (entity_spelled (prefixed number (entity_of p)))))
+      ∙ ap (λ xs. start ++ xs) (sym (flat_map-append entity_spelled (kept_front i) (prefixed number (entity_of p) ∷ [])))
+      ∙ ap (λ es. start ++ entities_spelled es) (sym (kept_more i p l at))
+
+  -- all of them
+  pub kept_ends : (i : ℕ) (start bytes : List ℕ) → i ≡ length (entity_payloads kept) → bytes ≡ start ++ entities_spelled (kept_front i) → bytes ≡ start ++ entities_spelled kept_all
+  kept_ends i start bytes at is =
+      is ∙ ap (λ ps. start ++ entities_spelled (map (prefixed number) (map entity_of ps))) (take_all i (entity_payloads kept) (omega arith))
+      ∙ ap (λ es. start ++ entities_spelled (map (prefixed number) es)) (sym (snapshot_is_its_fields.entities kept))
+
+  -- where the first are too many, all are
+  kept_rest : (i : ℕ) → kept_all ≡ kept_front i ++ map (prefixed number) (map entity_of (drop i (entity_payloads kept)))
+  kept_rest i =
+      ap (map (prefixed number)) (snapshot_is_its_fields.entities kept)
+      ∙ ap (λ ps. map (prefixed number) (map entity_of ps)) (sym (take-append-drop i (entity_payloads kept)))
+      ∙ ap (map (prefixed number)) (map-append entity_of (take i (entity_payloads kept)) (drop i (entity_payloads kept)))
+      ∙ map-append (prefixed number) (map entity_of (take i (entity_payloads kept))) (map entity_of (drop i (entity_payloads kept)))
+
+  pub kept_too_large : (i : ℕ) (start bytes : List ℕ) → bytes ≡ start ++ entities_spelled (kept_front i) → snapshot_limit < length bytes → snapshot_limit < length (start ++ entities_spelled kept_all)
+  kept_too_large i start bytes is l =
+      let rest = map (prefixed number) (map entity_of (drop i (entity_payloads kept))) in
+      let all : start ++ entities_spelled kept_all ≡ bytes ++ entities_spelled rest =
+      ap (λ es. start ++ entities_spelled es) (kept_rest i)
+      ∙ ap (λ xs. start ++ xs) (flat_map-append entity_spelled (kept_front i) rest)
+      ∙ sym (append_assoc start (entities_spelled (kept_front i)) (entities_spelled rest))
+      ∙ ap (λ xs. xs ++ entities_spelled rest) (sym is) in
+      let long : length (start ++ entities_spelled kept_all) ≡ length bytes + length (entities_spelled rest) = ap length all ∙ length-append bytes (entities_spelled rest) in
+      omega (arith, l, long)
+
+-- ---- the bytes of the first feeds, and of one more
+module _ (stamp : Option ℤ) (feeds : List (List ℕ)) where
+  pub written_next : (i : ℕ) (kept old new : List ℕ) → i < length feeds → kept ≡ get_or feeds i kept → old ≡ union_bytes stamp (front snapshot_value feeds i) →
+      new ≡ old ++ entities_spelled (kept_all i kept) → new ≡ union_bytes stamp (front snapshot_value feeds (i + 1))
+  written_next i kept old new l is before e =
+      e ∙ ap (λ xs. xs ++ entities_spelled (kept_all i kept)) before
+      ∙ union_more stamp (front snapshot_value feeds i) (kept_all i kept)
+      ∙ ap (union_bytes stamp) (entities_next snapshot_value feeds i kept (front snapshot_value feeds i) (front snapshot_value feeds i ++ kept_all i kept) l is refl refl)
+
+  -- they aren't more than those of all
+  front_fits : (i : ℕ) → length (union_bytes stamp (front snapshot_value feeds i)) ≤ length (union_bytes stamp (united_from 0 (map snapshot_value feeds)))
+  front_fits i = rises (front snapshot_value feeds i) _ (union_bytes stamp (united_from 0 (map snapshot_value feeds))) (ap (union_bytes stamp) (front_rest snapshot_value feeds i))
+    where
+      rises : (done es : List (Value entity)) (all : List ℕ) → all ≡ union_bytes stamp (done ++ es) → length (union_bytes stamp done) ≤ length all
+      rises done es all e =
+          let l : length all ≡ length (union_bytes stamp done) + length (entities_spelled es) = ap length (e ∙ sym (union_more stamp done es)) ∙ length-append (union_bytes stamp done) (entities_spelled es) in
+          omega (arith, l)
 
 -- so where those are too many, these are
-pub too_large : (stamp : Option ℤ) (ms items : List FeedMessage) (i : ℕ) (bytes : List ℕ) → items ≡ ms → stamp ≡ greatest_stamp (map feed_message_value ms) → bytes ≡ union_bytes stamp (front items i) →
-    snapshot_limit < length bytes → snapshot_limit < length (canonical feed_message (united (map feed_message_value ms)))
-too_large stamp ms items i bytes same stamped is l = subst (λ s. snapshot_limit < length (union_bytes s (united_from 0 (map feed_message_value ms)))) stamped (above (bytes_front stamp ms i))
+pub too_large : (feeds items : List (List ℕ)) (i : ℕ) (bytes : List ℕ) → items ≡ feeds → bytes ≡ union_bytes (greatest_stamp (map snapshot_value feeds)) (front snapshot_value items i) →
+    snapshot_limit < length bytes → snapshot_limit < length (canonical feed_message (united (map snapshot_value feeds)))
+too_large feeds items i bytes same is l = above (front_fits (greatest_stamp (map snapshot_value feeds)) feeds i)
   where
-    above : length (union_bytes stamp (front ms i)) ≤ length (union_bytes stamp (united_from 0 (map feed_message_value ms))) → snapshot_limit < length (union_bytes stamp (united_from 0 (map feed_message_value ms)))
-    above r = let long : length bytes ≡ length (union_bytes stamp (front ms i)) = ap length is ∙ ap (λ xs. length (union_bytes stamp (front xs i))) same in omega (arith, l, r, long)
+    above : length (union_bytes (greatest_stamp (map snapshot_value feeds)) (front snapshot_value feeds i)) ≤ length (canonical feed_message (united (map snapshot_value feeds))) →
+        snapshot_limit < length (canonical feed_message (united (map snapshot_value feeds)))
+    above r =
+        let long : length bytes ≡ length (union_bytes (greatest_stamp (map snapshot_value feeds)) (front snapshot_value feeds i)) =
+        ap length is ∙ ap (λ xs. length (union_bytes (greatest_stamp (map snapshot_value feeds)) (front snapshot_value xs i))) same in
+        omega (arith, l, r, long)
+
+-- what a call leaves where it took effect
+pub if_taken : {A E X : Type 0} (r : Result A E) (x a b : X) → x ≡ (if is_ok r then a else b) → OnOk r (x ≡ a)
+if_taken (Ok v) x a b h = h
+if_taken (Err e) x a b h = tt
+
+-- a fault that is handed on is the one that came
+pub handed_on : {E T U : Type 0} (s : Result U E) (came told fault : E) → s ≡ Err told → told ≡ came → s ≡ Err fault → (let q : Result T E = Err came in q) ≡ Err fault
+handed_on s came told fault now same is = cc

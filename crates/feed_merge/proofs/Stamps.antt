@@ -1,4 +1,5 @@
 -- The greatest of timestamps.
+use Rattle.std.specs.declared.option.Option.{Option}
 use Rattle.std.proofs.Common.{◌≡◌, ℕ, suc, ◌<◌, ℤ, ◌≤ℤ◌, List, [], ◌∷◌, ◌++◌, map, length, take, get_or, ◌+◌, ◌⊎◌, inl, inr, refl, ap, sym, ◌∙◌, subst, Some, None, arith}
 use Rattle.std.specs.Int.{int_max}
 use Rattle.std.specs.List.{All, Contains, cons_option, fold}
@@ -8,8 +9,6 @@ use Rattle.std.proofs.lemmas.List.Elements.{All-nil, All-cons, filter_map-append
 use Rattle.feed_values.specs.Schema.{Value}
 use Rattle.feed_values.specs.Messages.{feed_message}
 use Rattle.feed_values.specs.Snapshot.{timestamp_of}
-use Rattle.feed_values.specs.declared.feed_message.FeedMessage.{FeedMessage}
-use Rattle.feed_values.specs.Views.{feed_message_value, natural}
 use Rattle.feed_merge.specs.Union.{greatest, greatest_stamp, stamps_in}
 use Rattle.feed_merge.specs.Laws.{StampIsGreatest}
 
@@ -48,9 +47,9 @@ stamp_is_greatest = record {
 }
 
 -- ---- the first feeds, and one more
-pub stamps_next : (ms : List FeedMessage) (i : ℕ) (m : FeedMessage) → i < length ms → m ≡ get_or ms i m →
-    greatest (stamps_in (map feed_message_value (take i ms)) ++ cons_option (natural m.header.timestamp) []) ≡ greatest_stamp (map feed_message_value (take (i + 1) ms))
-stamps_next ms i m l is =
-    ap (λ (x : FeedMessage). greatest (stamps_in (map feed_message_value (take i ms)) ++ cons_option (natural x.header.timestamp) [])) is
-    ∙ ap greatest (sym (filter_map-append (λ (v : Value feed_message). timestamp_of v.0) (map feed_message_value (take i ms)) (feed_message_value (get_or ms i m) ∷ [])))
-    ∙ ap greatest_stamp (sym (map_more feed_message_value ms i m l))
+pub stamps_next : {A : Type 0} (says : A → Value feed_message) (xs : List A) (i : ℕ) (x : A) (stamp : Option ℤ) → i < length xs → x ≡ get_or xs i x → stamp ≡ timestamp_of (says x).0 →
+    greatest (stamps_in (map says (take i xs)) ++ cons_option stamp []) ≡ greatest_stamp (map says (take (i + 1) xs))
+stamps_next says xs i x stamp l is said =
+    ap (λ z. greatest (stamps_in (map says (take i xs)) ++ cons_option z [])) (said ∙ ap (λ y. timestamp_of (says y).0) is)
+    ∙ ap greatest (sym (filter_map-append (λ (v : Value feed_message). timestamp_of v.0) (map says (take i xs)) (says (get_or xs i x) ∷ [])))
+    ∙ ap greatest_stamp (sym (map_more says xs i x l))

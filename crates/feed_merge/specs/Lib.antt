@@ -1,2 +1,3 @@
 pub mod Union
+pub mod Spelled
 pub mod Laws

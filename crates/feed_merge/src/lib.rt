@@ -6,8 +6,9 @@
 //! of the headers, and no unknown field of a snapshot, is carried over. `specs/Union.antt` is that definition. What stands inside an
 //! entity, as the ids of trips, stays as it is.
 //!
-//! `merge` gives the union as a message, and `merged_bytes` its canonical bytes, which decode to it. Want of memory is the one
-//! failure, beside that the bytes may be more than a snapshot has.
+//! `merge` gives the union of messages as a message. `merged_bytes` gives the canonical bytes of the union of kept snapshots, which
+//! decode to it, and holds no more than one entity decoded. Want of memory is the one failure, beside that the bytes may be more
+//! than a snapshot has.
 //!
 //! The modules, from the bottom up:
 //!
@@ -15,7 +16,8 @@
 //! - `renaming`: entities under their ids in the union
 //! - `stamping`: the greatest timestamp
 //! - `merging`: the union
-//! - `writing`: its bytes
+//! - `spelling`: the entities of a feed as bytes of the union
+//! - `writing`: all its bytes
 //! - `laws`: that ids stay apart, that each entity is kept, and that the bytes decode to the union
 #![tactic(auto)]
 
@@ -23,6 +25,7 @@ mod laws;
 mod merge_fault;
 mod merging;
 mod renaming;
+mod spelling;
 mod stamping;
 mod writing;
 

@@ -60,7 +60,7 @@ fn united_entities(alloc: Global, feeds: &Items<FeedMessage>) -> Result<Items<En
 
 /// The union of at most 16 feeds, which are numbered in their order. The one error is want of memory.
 ///
-/// Every entity is made again. Where only the bytes are wanted, `merged_bytes` takes less memory.
+/// Every entity is made again. Where only the bytes are wanted, `merged_bytes` makes them of kept snapshots with far less memory.
 pub fn merge(alloc: Global, feeds: &Items<FeedMessage>) -> Result<FeedMessage, AllocError>
     requires few { length feeds.now ≤ feed_limit }
     requires formed { AllByRecursion IsWellFormedFeed (map feed_message_value feeds.now) }

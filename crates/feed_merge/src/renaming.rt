@@ -6,8 +6,8 @@ ghost use Rattle.feed_merge.specs.Union.{prefix, prefixed, renamed};
 use feed_values::{Entity, Items, Text};
 use std::alloc::{AllocError, Global};
 
-// What stands before the ids of a feed.
-fn prefix(alloc: Global, feed: usize) -> Result<String, AllocError>
+/// What stands before the ids of a feed.
+pub fn prefix(alloc: Global, feed: usize) -> Result<String, AllocError>
     ensures { IfOk result (λ text. string_bytes text ≡ prefix feed) }
 {
     format!(in alloc; "{feed}:")
@@ -21,13 +21,21 @@ fn prefixed_id(alloc: Global, prefix: &str, id: &str) -> Result<Text, AllocError
     Ok(text)
 }
 
+/// Puts this before the id of an entity.
+pub fn rename(alloc: Global, prefix: &str, entity: &mut Entity) -> Result<(), AllocError>
+    ensures { OnOk result (entity_value entity.new ≡ renamed prefix.now (entity_value entity.old)) }
+{
+    let id = prefixed_id(alloc, prefix, entity.id.as_str())?;
+    entity.id = id;
+    Ok(())
+}
+
 // The entity again, with this before its id.
 fn renamed(alloc: Global, prefix: &str, entity: &Entity) -> Result<Entity, AllocError>
     ensures { IfOk result (λ copy. entity_value copy ≡ renamed prefix.now (entity_value entity.now)) }
 {
-    let id = prefixed_id(alloc, prefix, entity.id.as_str())?;
     let mut copy = entity.clone(alloc)?;
-    copy.id = id;
+    rename(alloc, prefix, &mut copy)?;
     Ok(copy)
 }
 

@@ -1,10 +1,14 @@
 //! The timestamp of the union.
-ghost use Rattle.std.specs.Prelude.{◌≡◌, ◌++◌, [], ℤ, List, map};
+ghost use Rattle.std.specs.Prelude.{◌≡◌, ◌++◌, [], ℤ, List, map, IfOk};
 ghost use Rattle.std.specs.List.{cons_option};
+ghost use Rattle.feed_values.specs.Snapshot.{snapshot_value};
 ghost use Rattle.feed_values.specs.Views.{feed_message_value, natural};
 ghost use Rattle.feed_merge.specs.Union.{greatest, greatest_stamp};
 
+use feed_codec::decode_header;
+use feed_stream::Kept;
 use feed_values::{FeedMessage, Items};
+use std::alloc::{AllocError, Global};
 
 // The greatest of some timestamps and of one behind them, each where it is given.
 fn greater_stamp(before: Option<u64>, stamp: Option<u64>) -> Option<u64>
@@ -26,4 +30,16 @@ pub fn greatest_stamp(feeds: &Items<FeedMessage>) -> Option<u64>
         greatest = greater_stamp(greatest, feed.header.timestamp);
     }
     greatest
+}
+
+/// The same of kept snapshots, whose headers are decoded for it.
+pub fn greatest_kept_stamp(alloc: Global, feeds: &Items<Kept>) -> Result<Option<u64>, AllocError>
+    ensures { IfOk result (λ stamp. natural stamp ≡ greatest_stamp (map snapshot_value feeds.now)) }
+{
+    let mut greatest = None;
+    for feed in feeds.as_slice() {
+        let header = decode_header(alloc, feed.header_parts())?;
+        greatest = greater_stamp(greatest, header.timestamp);
+    }
+    Ok(greatest)
 }

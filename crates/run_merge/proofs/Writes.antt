@@ -9,7 +9,6 @@ use Rattle.feed_values.specs.Accepted.{snapshot_limit}
 use Rattle.feed_values.specs.Canonical.{canonical}
 use Rattle.feed_values.specs.Schema.{Value}
 use Rattle.feed_values.specs.Messages.{feed_message}
-use Rattle.feed_values.specs.declared.feed_message.FeedMessage.{FeedMessage}
 use Rattle.run_base.specs.declared.status.Status.{Status}
 use Rattle.run_base.specs.declared.status.Status.TheVariants as answer
 use Rattle.run_base.specs.Carried.{CarriesOut, exactly}
@@ -71,11 +70,11 @@ module _ (out new eb ea : SinkState) (result : Status) where
   small_written v held bytes same is le = of_same (written held answer.Clean) (union_report v) (ap (λ b. written b answer.Clean) same ∙ small_report v bytes is le)
 
   -- the report on what was gathered
-  pub none_refused : (feeds : List FeedMessage) (v : Value feed_message) (lines : List ℕ) → lines ≡ [] → union_report v ≡ report_on feeds [] → DoesAlways (union_report v) out new eb ea result →
+  pub none_refused : (feeds : List (List ℕ)) (v : Value feed_message) (lines : List ℕ) → lines ≡ [] → union_report v ≡ report_on feeds [] → DoesAlways (union_report v) out new eb ea result →
       DoesAlways (report_on feeds lines) out new eb ea result
   none_refused feeds v lines none is = of_same (union_report v) (report_on feeds lines) (is ∙ ap (report_on feeds) (sym none))
 
-  pub some_refused : (feeds : List FeedMessage) (lines held : List ℕ) → (lines ≡ [] → ⊥) → held ≡ lines → DoesAlways (written held answer.Found) out new eb ea result →
+  pub some_refused : (feeds : List (List ℕ)) (lines held : List ℕ) → (lines ≡ [] → ⊥) → held ≡ lines → DoesAlways (written held answer.Found) out new eb ea result →
       DoesAlways (report_on feeds lines) out new eb ea result
   some_refused feeds [] held some same does = absurd (some refl)
   some_refused feeds (byte ∷ lines) held some same does = of_same (written held answer.Found) (written (byte ∷ lines) answer.Found) (ap (λ b. written b answer.Found) same) does

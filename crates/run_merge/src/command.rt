@@ -1,18 +1,19 @@
 //! The command `merge`.
 ghost use Rattle.std.specs.Prelude.{◌≡◌, ◌≤◌, ℕ, List, [], map, length, Contains};
 ghost use Rattle.rt_outside.specs.Store.{FilesState};
-ghost use Rattle.feed_values.specs.Views.{feed_message_value};
+ghost use Rattle.feed_values.specs.Snapshot.{snapshot_value};
 ghost use Rattle.feed_merge.specs.Union.{feed_limit, united};
 ghost use Rattle.run_base.specs.Carried.{CarriesOut, exactly};
 ghost use Rattle.run_base.specs.Faults.{IsCarriedOut};
 ghost use Rattle.run_base.specs.Outside.{outside};
-ghost use Rattle.run_merge.specs.Gathering.{AreFormed, gathered_report};
+ghost use Rattle.run_merge.specs.Gathering.{gathered_report};
 ghost use Rattle.run_merge.specs.Merged.{merge_report, union_report, written};
 
 use crate::gathered::Gathered;
 use crate::reading::read_all;
 use feed_merge::{MergeFault, merged_bytes};
-use feed_values::{FeedMessage, Items, Text};
+use feed_stream::Kept;
+use feed_values::{Items, Text};
 use rt_outside::{Files, Sink, put_all};
 use run_base::{Fault, Status, say, say_fault, say_input_fault, say_memory};
 use std::alloc::Global;
@@ -46,7 +47,6 @@ fn write_gathered<S: Sink, E: Sink>(
     err: &mut E,
 ) -> Status
     requires few { length gathered.now.feeds ≤ feed_limit }
-    requires formed { AreFormed gathered.now.feeds }
     ensures { (files : FilesState) → CarriesOut (exactly (λ held. gathered_report gathered.now)) (λ name. ⊥)
         (outside files (S.state out.old) (E.state err.old))
         (outside files (S.state out.new) (E.state err.new)) result }
@@ -61,13 +61,12 @@ fn write_gathered<S: Sink, E: Sink>(
 // Writes the union of feeds.
 fn write_union<S: Sink, E: Sink>(
     alloc: Global,
-    feeds: &Items<FeedMessage>,
+    feeds: &Items<Kept>,
     out: &mut S,
     err: &mut E,
 ) -> Status
     requires few { length feeds.now ≤ feed_limit }
-    requires formed { AreFormed feeds.now }
-    ensures { (files : FilesState) → CarriesOut (exactly (λ held. union_report (united (map feed_message_value feeds.now)))) (λ name. ⊥)
+    ensures { (files : FilesState) → CarriesOut (exactly (λ held. union_report (united (map snapshot_value feeds.now)))) (λ name. ⊥)
         (outside files (S.state out.old) (E.state err.old))
         (outside files (S.state out.new) (E.state err.new)) result }
 {
