@@ -11,11 +11,11 @@ ghost use Rattle.snapshot_keys.specs.Places.{AreWithin, placed};
 ghost use Rattle.snapshot_keys.specs.Rowed.{ids_rows, kind_rows, rows_by};
 
 use crate::ids::{ReadIds, update_ids, vehicle_ids};
+use crate::placing::EntityPlace;
 use feed_stream::Kept;
 use pairing_rules::{PairIndex, PairRow};
 use rule_table::{EntityKey, Kind};
 use std::alloc::{AllocError, Global};
-use std::collections::BTreeMap;
 
 // The ids of a trip update or of a vehicle position of an entity, by its bytes.
 fn ids_of(alloc: Global, kind: Kind, payload: &[u8]) -> Result<Option<ReadIds>, AllocError>
@@ -55,15 +55,15 @@ fn add_rows(
     index: PairIndex,
     kind: Kind,
     kept: &Kept,
-    places: &BTreeMap<EntityKey, usize>,
+    places: &[EntityPlace],
 ) -> Result<PairIndex, AllocError>
-    requires { AreWithin kept.now places.now.entries }
-    ensures { IfOk result (λ next. next ≡ put_rows index (rows_by kind (placed kept.now places.now.entries))) }
+    requires { AreWithin kept.now places.now }
+    ensures { IfOk result (λ next. next ≡ put_rows index (rows_by kind (placed kept.now places.now))) }
 {
     let mut index = index;
-    for (key, place) in places {
-        if let Some(ids) = ids_of(alloc, kind, kept.entity(*place))? {
-            index = add_row(alloc, index, kind, key, ids)?;
+    for place in places {
+        if let Some(ids) = ids_of(alloc, kind, kept.entity(place.number))? {
+            index = add_row(alloc, index, kind, &place.key, ids)?;
         }
     }
     Ok(index)
@@ -74,13 +74,13 @@ fn add_rows(
 pub fn rows_of(
     alloc: Global,
     kept: &Kept,
-    places: &BTreeMap<EntityKey, usize>,
+    places: &[EntityPlace],
 ) -> Result<PairIndex, AllocError>
-    requires within { AreWithin kept.now places.now.entries }
-    requires rising { Rising (placed kept.now places.now.entries) }
-    ensures alike { IfOk result (λ rows. AreAlike rows (seat_rows (placed kept.now places.now.entries))) }
-    ensures found { IfOk result (λ rows. (t : Option Tables) (heads : Heads) → found_at_seats t rows heads (placed kept.now places.now.entries)
-        ≡ found_at_seats t (seat_rows (placed kept.now places.now.entries)) heads (placed kept.now places.now.entries)) }
+    requires within { AreWithin kept.now places.now }
+    requires rising { Rising (placed kept.now places.now) }
+    ensures alike { IfOk result (λ rows. AreAlike rows (seat_rows (placed kept.now places.now))) }
+    ensures found { IfOk result (λ rows. (t : Option Tables) (heads : Heads) → found_at_seats t rows heads (placed kept.now places.now)
+        ≡ found_at_seats t (seat_rows (placed kept.now places.now)) heads (placed kept.now places.now)) }
 {
     let updates = add_rows(alloc, PairIndex::new(alloc), Kind::TripUpdate, kept, places)?;
     let rows = add_rows(alloc, updates, Kind::Vehicle, kept, places)?;
