@@ -26,9 +26,7 @@ use rt_outside::{Sink, Steps, put_all};
 use rt_report::Lines;
 use rule_table::{EntityKey, Mark, PairView};
 use run_base::Fault;
-use snapshot_keys::{
-    EntityPlace, HeaderRules, Setting, finding_at, marks_at, places, rows_of,
-};
+use snapshot_keys::{EntityPlace, HeaderRules, Setting, finding_at, marks_at, places, rows_of};
 use std::alloc::{AllocError, Global};
 use std::sync::ledger::Ledger;
 use timetable::Timetable;

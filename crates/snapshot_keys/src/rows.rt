@@ -71,11 +71,7 @@ fn add_rows(
 
 /// The pairing rows of the entities at these places of a kept snapshot, as an index: of each kind those of the rows in the order
 /// of keys, and in their order. So the entities have the same findings with both.
-pub fn rows_of(
-    alloc: Global,
-    kept: &Kept,
-    places: &[EntityPlace],
-) -> Result<PairIndex, AllocError>
+pub fn rows_of(alloc: Global, kept: &Kept, places: &[EntityPlace]) -> Result<PairIndex, AllocError>
     requires within { AreWithin kept.now places.now }
     requires rising { Rising (placed kept.now places.now) }
     ensures alike { IfOk result (λ rows. AreAlike rows (seat_rows (placed kept.now places.now))) }
