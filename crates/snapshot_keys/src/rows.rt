@@ -7,7 +7,7 @@ ghost use Rattle.rule_table.specs.declared.key.EntityKey.{EntityKey};
 ghost use Rattle.pairing_rules.specs.ByKind.{AreAlike};
 ghost use Rattle.judging.specs.Seats.{Rising};
 ghost use Rattle.judging.specs.Judged.{found_at_seats, put_rows, seat_rows};
-ghost use Rattle.snapshot_keys.specs.Places.{AreWithin, placed};
+ghost use Rattle.snapshot_keys.specs.Places.{AreWithin, entity_at, placed};
 ghost use Rattle.snapshot_keys.specs.Rowed.{ids_rows, kind_rows, rows_by};
 
 use crate::ids::{ReadIds, update_ids, vehicle_ids};
@@ -49,6 +49,23 @@ fn add_row(
     Ok(next)
 }
 
+// Puts in the rows of one kind of one entity.
+fn and_rows(
+    alloc: Global,
+    index: PairIndex,
+    kind: Kind,
+    kept: &Kept,
+    place: &EntityPlace,
+) -> Result<PairIndex, AllocError>
+    requires { place.now.number < length (entity_payloads kept.now) }
+    ensures { IfOk result (λ next. next ≡ put_rows index (kind_rows kind place.now.key (entity_at kept.now place.now.number))) }
+{
+    match ids_of(alloc, kind, kept.entity(place.number))? {
+        Some(ids) => add_row(alloc, index, kind, &place.key, ids),
+        None => Ok(index),
+    }
+}
+
 // Puts in the rows of one kind.
 fn add_rows(
     alloc: Global,
@@ -62,9 +79,7 @@ fn add_rows(
 {
     let mut index = index;
     for place in places {
-        if let Some(ids) = ids_of(alloc, kind, kept.entity(place.number))? {
-            index = add_row(alloc, index, kind, &place.key, ids)?;
-        }
+        index = and_rows(alloc, index, kind, kept, place)?;
     }
     Ok(index)
 }
