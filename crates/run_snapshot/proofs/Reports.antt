@@ -39,7 +39,7 @@ as_many bytes = sym (ap length (snapshot_is_its_fields.entities bytes) ∙ longs
 -- the places of a snapshot are as many as its entities
 pub as_many_places : (bytes : List ℕ) (es : Places) → placed bytes es ≡ seats 0 (entities_of bytes) → length es ≡ length (entities_of bytes)
 as_many_places bytes es are =
-    sym (length-map es (λ e. (e.0, entity_at bytes e.1))) ∙ ap length (are ∙ sym (seats_are 0 bytes)) ∙ length-map (entities_in 0 bytes) value_of
+    sym (length-map es (λ e. (e.key, entity_at bytes e.number))) ∙ ap length (are ∙ sym (seats_are 0 bytes)) ∙ length-map (entities_in 0 bytes) value_of
     ∙ (none_is_lost (first_taken 0 bytes ∷ []) 0 (first_taken 0 bytes) refl).as_many ∙ as_many bytes
 
 module _ (t : Option Tables) (moment : ℕ) (bytes : List ℕ) where

@@ -26,9 +26,8 @@ use rt_outside::{Sink, Steps, put_all};
 use rt_report::Lines;
 use rule_table::{EntityKey, Mark, PairView};
 use run_base::Fault;
-use snapshot_keys::{HeaderRules, Setting, finding_at, marks_at, places, rows_of};
+use snapshot_keys::{EntityPlace, HeaderRules, Setting, finding_at, marks_at, places, rows_of};
 use std::alloc::{AllocError, Global};
-use std::collections::BTreeMap;
 use std::sync::ledger::Ledger;
 use timetable::Timetable;
 
@@ -107,26 +106,34 @@ fn send_entities<P: PairView, S: Sink, D: Ledger, T: Ledger>(
     alloc: Global,
     setting: &Setting<'_, P>,
     kept: &Kept,
-    places: &BTreeMap<EntityKey, usize>,
+    places: &[EntityPlace],
     lines: &mut Lines,
     out: &mut S,
     decodes: &mut Steps<D>,
     tests: &mut Steps<T>,
 ) -> Result<(), Fault>
-    requires { AreWithin kept.now places.now.entries }
+    requires { AreWithin kept.now places.now }
     ensures sent { OnOk result (Sends (S.state out.old).written (S.state out.new).written lines.old lines.new
-        (found_at_seats (tables_of setting.now.table.now) (P.rows setting.now.view.now) (first_heads (feed_header_value setting.now.header.now) setting.now.moment) (placed kept.now places.now.entries))) }
+        (found_at_seats (tables_of setting.now.table.now) (P.rows setting.now.view.now) (first_heads (feed_header_value setting.now.header.now) setting.now.moment) (placed kept.now places.now))) }
     ensures part { OnErr result (SendsPart (S.state out.old).written (S.state out.new).written lines.old
-        (found_at_seats (tables_of setting.now.table.now) (P.rows setting.now.view.now) (first_heads (feed_header_value setting.now.header.now) setting.now.moment) (placed kept.now places.now.entries))) }
+        (found_at_seats (tables_of setting.now.table.now) (P.rows setting.now.view.now) (first_heads (feed_header_value setting.now.header.now) setting.now.moment) (placed kept.now places.now))) }
     ensures not_read { IsErrOf result Fault.Read → ⊥ }
     ensures later { (S.state out.old).faults ≤ (S.state out.new).faults }
     ensures write { IsErrOf result Fault.Write → Rose (S.state out.old).faults (S.state out.new).faults }
-    ensures counted { OnOk result (RoseBy (entities_work (length places.now.entries)) (counters decodes.old tests.old) (counters decodes.new tests.new)) }
-    ensures most { RoseAtMost (entities_work (length places.now.entries)) (counters decodes.old tests.old) (counters decodes.new tests.new) }
+    ensures counted { OnOk result (RoseBy (entities_work (length places.now)) (counters decodes.old tests.old) (counters decodes.new tests.new)) }
+    ensures most { RoseAtMost (entities_work (length places.now)) (counters decodes.old tests.old) (counters decodes.new tests.new) }
 {
-    for (key, place) in places {
+    for place in places {
         send_entity(
-            alloc, setting, kept, key, *place, lines, out, decodes, tests,
+            alloc,
+            setting,
+            kept,
+            &place.key,
+            place.number,
+            lines,
+            out,
+            decodes,
+            tests,
         )?;
     }
     Ok(())

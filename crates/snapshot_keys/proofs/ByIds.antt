@@ -1,8 +1,7 @@
--- Rows by the ids that bytes give are those of the entity, and keys that compare alike have one id.
-use Rattle.std.proofs.Common.{◌≡◌, ℕ, List, [], ◌∷◌, get_or, Some, None, refl, ap, sym, ◌∙◌}
+-- Rows by the ids that bytes give are those of the entity.
+use Rattle.std.proofs.Common.{◌≡◌, ◌<◌, ◌+◌, ℕ, List, [], ◌∷◌, drop, get_or, length, Some, None, refl, ap, sym, ◌∙◌}
+use Rattle.std.proofs.lemmas.List.{drop_more}
 use Rattle.std.specs.Prelude.{option_map}
-use Rattle.std.specs.Ordering.{is_eq}
-use Rattle.std.specs.declared.cmp.Ordering.TheVariants as order
 use Rattle.std.specs.declared.option.Option.{Option}
 use Rattle.feed_values.specs.Schema.{Value}
 use Rattle.feed_values.specs.Messages.{trip_update, vehicle_position}
@@ -10,18 +9,14 @@ use Rattle.feed_values.specs.Snapshot.{entity_of, entity_payloads}
 use Rattle.rule_table.specs.declared.key.EntityKey.{EntityKey}
 use Rattle.rule_table.specs.declared.kind.Kind.{Kind}
 use Rattle.rule_table.specs.declared.kind.Kind.TheVariants as kind
-use Rattle.rule_table.specs.Order.{key_cmp}
 use Rattle.rule_table.specs.Pairs.{PairRow, update_rows, vehicle_rows}
-use Rattle.rule_table.proofs.SameKeys.{key_is, same-key}
 use Rattle.judging.specs.Judged.{put_rows}
 use Rattle.judging.proofs.Rowed.{put_append}
 use Rattle.snapshot_keys.specs.declared.ids.ReadIds.{ReadIds}
+use Rattle.snapshot_keys.specs.declared.placing.EntityPlace.{EntityPlace}
 use Rattle.snapshot_keys.specs.Ids.{update_ids, vehicle_ids}
 use Rattle.snapshot_keys.specs.Places.{Places, entity_at, placed}
 use Rattle.snapshot_keys.specs.Rowed.{ids_rows, kind_rows, rows_by}
-
-pub same_id : (k l : EntityKey) → key_cmp k l ≡ order.Equal → l.id ≡ k.id
-same_id k l h = ap (λ x. x.id) (sym (key_is k l (sym (same-key k l) ∙ ap is_eq h)))
 
 pub rows_of_update : (key : EntityKey) (u : Option (Value trip_update)) → ids_rows kind.TripUpdate key (option_map update_ids u) ≡ update_rows key u
 rows_of_update key None = refl
@@ -32,8 +27,13 @@ rows_of_vehicle key None = refl
 rows_of_vehicle key (Some v) = refl
 
 -- the rows of an entity more
-pub put_next : (bytes : List ℕ) (K : Kind) (index next : List PairRow) (key : EntityKey) (place : ℕ) (rest : Places) (ids : Option ReadIds) (p : List ℕ) → get_or (entity_payloads bytes) place [] ≡ p →
-    next ≡ put_rows index (ids_rows K key ids) → ids_rows K key ids ≡ kind_rows K key (entity_of p) → put_rows next (rows_by K (placed bytes rest)) ≡ put_rows index (rows_by K (placed bytes ((key, place) ∷ rest)))
-put_next bytes K index next key place rest ids p at put is =
-    ap (λ x. put_rows x (rows_by K (placed bytes rest))) (put ∙ ap (put_rows index) (is ∙ ap (λ q. kind_rows K key (entity_of q)) (sym at)))
-    ∙ sym (put_append index (kind_rows K key (entity_at bytes place)) (rows_by K (placed bytes rest)))
+pub put_next : (bytes : List ℕ) (K : Kind) (index next : List PairRow) (es : Places) (i : ℕ) (d : EntityPlace) (ids : Option ReadIds) (p : List ℕ) → i < length es → get_or (entity_payloads bytes) (get_or es i d).number [] ≡ p →
+    next ≡ put_rows index (ids_rows K (get_or es i d).key ids) → ids_rows K (get_or es i d).key ids ≡ kind_rows K (get_or es i d).key (entity_of p) →
+    put_rows next (rows_by K (placed bytes (drop (i + 1) es))) ≡ put_rows index (rows_by K (placed bytes (drop i es)))
+put_next bytes K index next es i d ids p l at put is =
+    ap (λ x. put_rows x (rows_by K (placed bytes (drop (i + 1) es)))) (put ∙ ap (put_rows index) (is ∙ ap (λ q. kind_rows K e.key (entity_of q)) (sym at)))
+    ∙ sym (put_append index (kind_rows K e.key (entity_at bytes e.number)) (rows_by K (placed bytes (drop (i + 1) es))))
+    ∙ sym (ap (λ xs. put_rows index (rows_by K (placed bytes xs))) (drop_more es i d l))
+  where
+    e : EntityPlace
+    e = get_or es i d

@@ -1,4 +1,6 @@
 pub mod Found
 pub mod OneMore
-pub mod Standing
+pub mod Lookups
+pub mod Walked
+pub mod Sorting
 pub mod ByIds

@@ -5,4 +5,5 @@ pub use Rattle.pairing_rules.specs.ByKind
 pub use Rattle.rule_table.specs.Pairs
 pub mod Ids
 pub mod Places
+pub mod ById
 pub mod Rowed

@@ -3,28 +3,24 @@ use Rattle.std.specs.Prelude.{◌≡◌, ◌<◌, ℕ, List, [], length, map, ge
 use Rattle.feed_values.specs.Schema.{Value}
 use Rattle.feed_values.specs.Messages.{entity}
 use Rattle.feed_values.specs.Snapshot.{entities_of, entity_of, entity_payloads}
-use Rattle.rule_table.specs.declared.key.EntityKey.{EntityKey}
 use Rattle.rule_table.specs.Groups.{Each}
-use Rattle.judging.specs.Seats.{Seat, id_of, seats}
-
--- the key of an entity before which a number of others with its id stand
-abbrev pub key_of : ℕ → Value entity → ℕ → EntityKey
-key_of feed e before = record { feed = feed; id = id_of e; occurrence = before }
+use Rattle.judging.specs.Seats.{Seat, seats}
+use Rattle.snapshot_keys.specs.declared.placing.EntityPlace.{EntityPlace}
 
 -- numbers of entities under keys
 abbrev pub Places : Type 0
-Places = List (EntityKey × ℕ)
+Places = List EntityPlace
 
 -- the entity of a snapshot that has a number
 abbrev pub entity_at : List ℕ → ℕ → Value entity
-entity_at bytes place = entity_of (get_or (entity_payloads bytes) place [])
+entity_at bytes number = entity_of (get_or (entity_payloads bytes) number [])
 
 abbrev pub placed : List ℕ → Places → List Seat
-placed bytes es = map (λ e. (e.0, entity_at bytes e.1)) es
+placed bytes es = map (λ e. (e.key, entity_at bytes e.number)) es
 
 -- the snapshot has an entity for each number
 abbrev pub AreWithin : List ℕ → Places → Type 0
-AreWithin bytes es = Each (λ e. e.1 < length (entity_payloads bytes)) es
+AreWithin bytes es = Each (λ e. e.number < length (entity_payloads bytes)) es
 
 -- each entity of the snapshot is there, under its key and in the order of keys
 pub record ArePlaces (feed : ℕ) (bytes : List ℕ) (es : Places) : Type 0 where

@@ -15,5 +15,5 @@ mod rows;
 mod slot_ids;
 
 pub use judging::{HeaderRules, Setting, finding_at, marks_at};
-pub use placing::places;
+pub use placing::{EntityPlace, places};
 pub use rows::rows_of;

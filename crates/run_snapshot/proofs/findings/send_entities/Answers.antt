@@ -1,28 +1,25 @@
-use Rattle.std.proofs.Common.{◌+◌, ◌*◌, List, ap, length, sym, subst, arith}
-use Rattle.std.specs.Map.Iter.{deref_pair}
-use Rattle.std.proofs.lemmas.Map.Iter.{rest_more}
+use Rattle.std.proofs.Common.{◌+◌, List, drop, subst, arith}
+use Rattle.std.proofs.lemmas.List.{drop_more, length-drop}
 use Rattle.feed_values.specs.Views.{feed_header_value}
 use Rattle.rule_history.specs.Answered.{Heads, tables_of}
 use Rattle.rule_table.specs.Found.{Found}
-use Rattle.snapshot_keys.specs.judging.Whole.{entity_found, rows_alone}
 use Rattle.snapshot_keys.specs.judging.Judged.{first_heads, found_at_seats}
-use Rattle.snapshot_keys.specs.Places.{AreWithin, entity_at, placed}
+use Rattle.snapshot_keys.specs.Places.{placed}
+use Rattle.snapshot_keys.proofs.OneMore.{within_next}
 use Rattle.run_snapshot.proofs.Sent.{Left, left_all, left_next, left_cut, at_err}
 use Rattle.run_snapshot.proofs.findings.send_entities.Goals as goal
 
-pub loop-key-init : goal.loop-key-init
-loop-key-init g c =
+pub loop-place-init : goal.loop-place-init
+loop-place-init g c =
     let t = tables_of c.args.setting.now.table.now in
     let rows = g.P.PairView.rows c.args.setting.now.view.now in
     let heads : Heads = first_heads (feed_header_value c.args.setting.now.header.now) c.args.setting.now.moment in
-    let all : List Found = found_at_seats t rows heads (placed c.args.kept.now c.args.places.now.entries) in
-    let before = (g.S.Sink.state c.args.out.now).written in
+    let all : List Found = found_at_seats t rows heads (placed c.args.kept.now c.args.places.now) in
     record {
-      left = subst (λ it. Left before c.args.lines.now all before c.args.lines.now (found_at_seats t rows heads (placed c.args.kept.now it)))
-          (sym c.into_iter-key-iterator.ensures.into_iter_gives.0) (left_all before c.args.lines.now all);
-      within = subst (AreWithin c.args.kept.now) (sym c.into_iter-key-iterator.ensures.into_iter_gives.0) c.requires;
-      decoded = ap (λ it. c.args.decodes.now + length it) c.into_iter-key-iterator.ensures.into_iter_gives.0;
-      tested = ap (λ it. c.args.tests.now + 46 * length it) c.into_iter-key-iterator.ensures.into_iter_gives.0;
+      left = left_all (g.S.Sink.state c.args.out.now).written c.args.lines.now all;
+      within = c.requires;
+      decoded = omega arith;
+      tested = omega arith;
       later = omega arith;
     }
 
@@ -32,51 +29,50 @@ returns-in_err-send_entity-clause-part g c =
     let t = tables_of c.args.setting.now.table.now in
     let rows = g.P.PairView.rows c.args.setting.now.view.now in
     let heads : Heads = first_heads (feed_header_value c.args.setting.now.header.now) c.args.setting.now.moment in
-    let all : List Found = found_at_seats t rows heads (placed c.args.kept.now c.args.places.now.entries) in
-    let xs : List Found = entity_found t (rows_alone rows) heads c.in-Some.key.now (entity_at c.args.kept.now c.in-Some.place.now) in
-    let ys : List Found = found_at_seats t rows heads (placed c.args.kept.now c.next.new.self) in
+    let es = c.args.places.now in
+    let i = c.loop-place.place-index in
+    let all : List Found = found_at_seats t rows heads (placed c.args.kept.now es) in
     let before = (g.S.Sink.state c.args.out.now).written in
-    let mid = (g.S.Sink.state c.loop-key.out).written in
+    let mid = (g.S.Sink.state c.loop-place.out).written in
     let now = (g.S.Sink.state c.send_entity.new.out).written in
     at_err c.from_residual.result
-    (left_cut before c.args.lines.now all mid now c.loop-key.lines xs ys
-    (subst (λ it. Left before c.args.lines.now all mid c.loop-key.lines (found_at_seats t rows heads (placed c.args.kept.now it)))
-    (rest_more deref_pair _ c.next.new.self c.next.result _ c.in-Some.is c.next.ensures.steps) c.loop-key.invariant.left)
+    (left_cut before c.args.lines.now all mid now c.loop-place.lines _ (found_at_seats t rows heads (placed c.args.kept.now (drop (i + 1) es)))
+    (subst (λ it. Left before c.args.lines.now all mid c.loop-place.lines (found_at_seats t rows heads (placed c.args.kept.now it))) (drop_more es i _ c.loop-place-test.true) c.loop-place.invariant.left)
     c.in_err-send_entity.ensures.part)
 
 -- the findings of one entity more
-pub loop-key-preserved : goal.loop-key-preserved
-loop-key-preserved g c =
+pub loop-place-preserved : goal.loop-place-preserved
+loop-place-preserved g c =
     let t = tables_of c.args.setting.now.table.now in
     let rows = g.P.PairView.rows c.args.setting.now.view.now in
     let heads : Heads = first_heads (feed_header_value c.args.setting.now.header.now) c.args.setting.now.moment in
-    let all : List Found = found_at_seats t rows heads (placed c.args.kept.now c.args.places.now.entries) in
-    let xs : List Found = entity_found t (rows_alone rows) heads c.in-Some.key.now (entity_at c.args.kept.now c.in-Some.place.now) in
-    let ys : List Found = found_at_seats t rows heads (placed c.args.kept.now c.next.new.self) in
+    let es = c.args.places.now in
+    let i = c.loop-place.place-index in
+    let all : List Found = found_at_seats t rows heads (placed c.args.kept.now es) in
     let before = (g.S.Sink.state c.args.out.now).written in
-    let mid = (g.S.Sink.state c.loop-key.out).written in
+    let mid = (g.S.Sink.state c.loop-place.out).written in
     let now = (g.S.Sink.state c.send_entity.new.out).written in
-    let fewer = ap length (rest_more deref_pair _ c.next.new.self c.next.result _ c.in-Some.is c.next.ensures.steps) in
+    let now_left = length-drop i es in
+    let then_left = length-drop (i + 1) es in
     record {
-      left = left_next before c.args.lines.now all mid now c.loop-key.lines c.send_entity.new.lines xs ys
-          (subst (λ it. Left before c.args.lines.now all mid c.loop-key.lines (found_at_seats t rows heads (placed c.args.kept.now it)))
-          (rest_more deref_pair _ c.next.new.self c.next.result _ c.in-Some.is c.next.ensures.steps) c.loop-key.invariant.left)
+      left = left_next before c.args.lines.now all mid now c.loop-place.lines c.send_entity.new.lines _ (found_at_seats t rows heads (placed c.args.kept.now (drop (i + 1) es)))
+          (subst (λ it. Left before c.args.lines.now all mid c.loop-place.lines (found_at_seats t rows heads (placed c.args.kept.now it))) (drop_more es i _ c.loop-place-test.true) c.loop-place.invariant.left)
           c.in_ok-send_entity.ensures.sent;
-      within = (subst (AreWithin c.args.kept.now) (rest_more deref_pair _ c.next.new.self c.next.result _ c.in-Some.is c.next.ensures.steps) c.loop-key.invariant.within).1;
-      decoded = omega (arith, fewer, c.loop-key.invariant.decoded, c.in_ok-send_entity.ensures.counted.decodes);
-      tested = omega (arith, fewer, c.loop-key.invariant.tested, c.in_ok-send_entity.ensures.counted.tests);
-      later = omega (arith, c.loop-key.invariant.later, c.in_ok-send_entity.ensures.later);
+      within = (within_next c.args.kept.now es i _ c.loop-place-test.true c.loop-place.invariant.within).1;
+      decoded = omega (arith, now_left, then_left, c.loop-place-test.true, c.loop-place.invariant.decoded, c.in_ok-send_entity.ensures.counted.decodes);
+      tested = omega (arith, now_left, then_left, c.loop-place-test.true, c.loop-place.invariant.tested, c.in_ok-send_entity.ensures.counted.tests);
+      later = omega (arith, c.loop-place.invariant.later, c.in_ok-send_entity.ensures.later);
     }
 
 -- the snapshot has the entity whose findings are sent
 pub send_entity-requires : goal.send_entity-requires
-send_entity-requires g c = (subst (AreWithin c.args.kept.now) (rest_more deref_pair _ c.next.new.self c.next.result _ c.in-Some.is c.next.ensures.steps) c.loop-key.invariant.within).0
+send_entity-requires g c = (within_next c.args.kept.now c.args.places.now c.loop-place.place-index _ c.loop-place-test.true c.loop-place.invariant.within).0
 
 -- nothing more is decoded or tested where the findings of an entity couldn't be sent
 pub returns-in_err-send_entity-clause-most : goal.returns-in_err-send_entity-clause-most
 returns-in_err-send_entity-clause-most g c =
-    let fewer = ap length (rest_more deref_pair _ c.next.new.self c.next.result _ c.in-Some.is c.next.ensures.steps) in
+    let now_left = length-drop c.loop-place.place-index c.args.places.now in
     record {
-      decodes = omega (arith, fewer, c.loop-key.invariant.decoded, c.in_err-send_entity.ensures.most.decodes);
-      tests = omega (arith, fewer, c.loop-key.invariant.tested, c.in_err-send_entity.ensures.most.tests);
+      decodes = omega (arith, now_left, c.loop-place-test.true, c.loop-place.invariant.decoded, c.in_err-send_entity.ensures.most.decodes);
+      tests = omega (arith, now_left, c.loop-place-test.true, c.loop-place.invariant.tested, c.in_err-send_entity.ensures.most.tests);
     }

@@ -72,14 +72,14 @@ returns-in_err-judge_header-clause-most g c = record { decodes = omega arith; te
 
 pub returns-clause-counted : goal.returns-clause-counted
 returns-clause-counted g c =
-    let many = as_many_places c.args.kept.now c.in_ok-places.places.entries c.in_ok-places.ensures.seats_are in
+    let many = as_many_places c.args.kept.now c.in_ok-places.places.items c.in_ok-places.ensures.seats_are in
     more_ok c.send_entities.result
     (λ by. record { decodes = omega (arith, many, by.decodes); tests = omega (arith, many, c.in_ok-judge_header.ensures.ticked, by.tests) })
     c.send_entities.ensures.counted
 
 pub returns-clause-most : goal.returns-clause-most
 returns-clause-most g c =
-    let many = as_many_places c.args.kept.now c.in_ok-places.places.entries c.in_ok-places.ensures.seats_are in
+    let many = as_many_places c.args.kept.now c.in_ok-places.places.items c.in_ok-places.ensures.seats_are in
     record {
       decodes = omega (arith, many, c.send_entities.ensures.most.decodes);
       tests = omega (arith, many, c.in_ok-judge_header.ensures.ticked, c.send_entities.ensures.most.tests);

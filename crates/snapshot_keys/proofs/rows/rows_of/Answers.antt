@@ -6,7 +6,7 @@ use Rattle.snapshot_keys.proofs.rows.rows_of.Goals as goal
 
 pub returns : goal.returns
 returns c =
-    let es = placed c.args.kept.now c.args.places.now.entries in
+    let es = placed c.args.kept.now c.args.places.now in
     let alike = index_alike es c.in_ok-rows.rows
     (c.in_ok-rows.ensures ∙ ap (λ u. put_rows u (vehicle_rows_of es)) (c.in_ok-updates.ensures ∙ ap (λ u. put_rows u (update_rows_of es)) c.new.ensures))
     c.requires.rising
