@@ -1,5 +1,6 @@
 pub mod Faults
 pub mod Form
+pub mod FromText
 pub mod Holds
 pub mod Pieces
 pub mod Reads

@@ -1,5 +1,5 @@
 //! Any message, from JSON and to it: what is said of every kind stands here once.
-ghost use Rattle.std.specs.Prelude.{◌≡◌, map, false, bytes_eq, OnOk, IfOk, IfSome};
+ghost use Rattle.std.specs.Prelude.{◌≡◌, map, false, bytes_eq, Some, OnOk, IfOk, IfSome};
 ghost use Rattle.std.specs.Option.{option_map};
 ghost use Rattle.std.specs.List.{AllByRecursion, list_any};
 ghost use Rattle.serde_json.specs.Find.{get};
@@ -83,7 +83,7 @@ fn knows<M: Form>(key: &str) -> bool
 }
 
 /// The first key, in byte order, that a kind of message hasn't.
-fn unknown_key<M: Form>(members: &Map<String, Value>) -> Option<&str>
+pub fn unknown_key<M: Form>(members: &Map<String, Value>) -> Option<&str>
     ensures { option_map (λ key. key.now) result ≡ first_unknown (is_key M.schema) (members_view members.now.entries) }
 {
     for (key, _) in members {
@@ -135,7 +135,7 @@ pub fn optional_message<M: Form>(
 }
 
 /// An item of an array. Its place is made only where it has a fault.
-fn item_from<M: Form>(alloc: Global, value: &Value, key: &str, i: usize) -> Result<M, JsonFault>
+pub fn item_from<M: Form>(alloc: Global, value: &Value, key: &str, i: usize) -> Result<M, JsonFault>
     ensures read { Reads M.value (under (item_key key.now i) (unform M.schema (view value.now))) result }
     ensures fits { IfOk result (λ message. Holds M.schema M.schema (M.value message)) }
 {
@@ -163,17 +163,25 @@ fn items_from<M: Form>(alloc: Global, items: &[Value], key: &str) -> Result<Item
     Ok(list)
 }
 
+/// The messages of what stands at a key, as an array.
+pub fn array_from<M: Form>(alloc: Global, held: &Value, key: &str) -> Result<Items<M>, JsonFault>
+    ensures read { Reads (map M.value) (array_at key.now (unform M.schema) (Some (view held.now))) result }
+    ensures fits { IfOk result (λ list. AllByRecursion (Holds M.schema M.schema) (map M.value list)) }
+{
+    match held.as_array() {
+        Some(items) => items_from(alloc, items.as_slice(), key),
+        None => Err(JsonFault::WrongKind(text_of(alloc, key)?)),
+    }
+}
+
 /// The messages of a repeated slot, none where it isn't there.
 pub fn repeated<M: Form>(alloc: Global, value: &Value, key: &str) -> Result<Items<M>, JsonFault>
     ensures read { Reads (map M.value) (array_at key.now (unform M.schema) (get key.now (view value.now))) result }
     ensures fits { IfOk result (λ list. AllByRecursion (Holds M.schema M.schema) (map M.value list)) }
 {
-    let Some(held) = value.get(key) else {
-        return Ok(Items::new(alloc));
-    };
-    match held.as_array() {
-        Some(items) => items_from(alloc, items.as_slice(), key),
-        None => Err(JsonFault::WrongKind(text_of(alloc, key)?)),
+    match value.get(key) {
+        Some(held) => array_from(alloc, held, key),
+        None => Ok(Items::new(alloc)),
     }
 }
 
