@@ -1,11 +1,7 @@
 -- The report of `encode`, by what its file says.
-use Rattle.std.proofs.Common.{◌≡◌, ◌≢◌, ℕ, List, Bool, true, false, refl, sym, ap, subst, Some, None, IfSome, Ok, Err}
+use Rattle.std.proofs.Common.{◌≡◌, ◌≢◌, ℕ, List, refl, sym, ap, subst, Some, None, IfSome, Ok, Err}
 use Rattle.std.specs.declared.option.Option.{Option}
 use Rattle.std.specs.FinMap.{get}
-use Rattle.std.specs.Str.{IsUtf8, is_utf8}
-use Rattle.std.proofs.lemmas.Str.{IsUtf8-from_is_utf8, is_utf8-from_IsUtf8}
-use Rattle.serde_json.specs.Data.{Data}
-use Rattle.serde_json.specs.Read.{read}
 use Rattle.rt_outside.specs.Causes.{Rose}
 use Rattle.rt_outside.specs.Sink.{SinkState}
 use Rattle.rt_outside.specs.Store.{Contents, FilesState, contents_told}
@@ -20,7 +16,7 @@ use Rattle.feed_values.specs.Schema.{Value}
 use Rattle.feed_values.specs.Messages.{feed_message}
 use Rattle.run_json.specs.declared.json_input_fault.JsonInputFault.{JsonInputFault}
 use Rattle.run_json.specs.declared.json_input_fault.JsonInputFault.TheVariants.{MissingFile, TooLarge, NotJson, WrongKind, UnknownKey, OutOfRange, MissingKey, ReadFault, Memory}
-use Rattle.run_json.specs.JsonInputs.{TellsJsonFault, tree_of, input_message, input_text}
+use Rattle.run_json.specs.JsonInputs.{TellsJsonFault, input_message, input_text}
 use Rattle.run_base.specs.Report.{Report, refused_input}
 use Rattle.run_json.specs.Reports.{encode_report, written_report}
 
@@ -64,15 +60,3 @@ carried_json files later out eb ea result file reads fault why may is rose asked
       subst (IsErrorText reads) (sym w.2) (input_error reads file fault may w.0 w.1),
       subst (λ x. IfSome (contents_told files.told) (λ held. encode_report file held ≡ refused_input x)) (sym w.2) (refused_report (contents_told files.told) file fault w.0 w.1 is),
     )) tells) said
-
--- ---- the tree of a text
-
-pub tree_read : (bytes : List ℕ) (d : Data) → IsUtf8 bytes × (read bytes ≡ Some d) → tree_of bytes ≡ Some d
-tree_read bytes d h = rw (is_utf8-from_IsUtf8 bytes h.0) h.1
-
-by_utf8 : (bytes : List ℕ) (b : Bool) → is_utf8 bytes ≡ b → (IsUtf8 bytes → read bytes ≡ None) → tree_of bytes ≡ None
-by_utf8 bytes true e none = rw e (none (IsUtf8-from_is_utf8 bytes e))
-by_utf8 bytes false e none = rw e refl
-
-pub tree_refused : (bytes : List ℕ) → (IsUtf8 bytes → read bytes ≡ None) → tree_of bytes ≡ None
-tree_refused bytes none = by_utf8 bytes (is_utf8 bytes) refl none

@@ -1,13 +1,12 @@
 -- What a JSON file says as a snapshot, or the first thing that is wrong with it, and how that is told. (This profile.)
 use Rattle.std.specs.Prelude.{◌≡◌, ◌≢◌, ℕ, List, [], ◌++◌, length, codes, nat_lt, if◌then◌else◌, Option, Some, None, Result, Ok, Err}
-use Rattle.std.specs.Str.{is_utf8}
-use Rattle.serde_json.specs.Data.{Data}
-use Rattle.serde_json.specs.Read.{read}
 use Rattle.feed_values.specs.Schema.{Value}
 use Rattle.feed_values.specs.Messages.{feed_message}
 use Rattle.feed_json.specs.declared.json_fault.JsonFault.{JsonFault}
 use Rattle.feed_json.specs.declared.json_fault.JsonFault.TheVariants as json
-use Rattle.feed_json.specs.Unform.{unform}
+use Rattle.feed_json.specs.declared.text_fault.TextFault.{TextFault}
+use Rattle.feed_json.specs.declared.text_fault.TextFault.TheVariants as text
+use Rattle.feed_json.specs.FromText.{text_message}
 use Rattle.run_json.specs.declared.json_input_fault.JsonInputFault.{JsonInputFault}
 use Rattle.run_json.specs.declared.json_input_fault.JsonInputFault.TheVariants.{MissingFile, TooLarge, NotJson, WrongKind, UnknownKey, OutOfRange, MissingKey, ReadFault, Memory}
 use Rattle.run_base.specs.declared.input_fault.InputFault.{InputFault}
@@ -26,23 +25,20 @@ input_fault (json.OutOfRange path) = OutOfRange path
 input_fault (json.MissingKey path) = MissingKey path
 input_fault json.Memory = Memory
 
--- the tree of a text, which is UTF-8 and JSON
-abbrev pub tree_of : List ℕ → Option Data
-tree_of bytes = if is_utf8 bytes then read bytes else None
+-- why a text is no snapshot, as a fault of its file
+abbrev pub text_fault : TextFault → JsonInputFault
+text_fault text.NotJson = NotJson
+text_fault (text.Message fault) = input_fault fault
 
--- the snapshot that a tree says
-abbrev pub of_tree : Result (Value feed_message) JsonFault → Result (Value feed_message) JsonInputFault
-of_tree (Ok v) = Ok v
-of_tree (Err fault) = Err (input_fault fault)
-
-abbrev pub tree_message : Option Data → Result (Value feed_message) JsonInputFault
-tree_message None = Err NotJson
-tree_message (Some d) = of_tree (unform feed_message d)
+-- the snapshot that a text says
+abbrev pub of_text : Result (Value feed_message) TextFault → Result (Value feed_message) JsonInputFault
+of_text (Ok v) = Ok v
+of_text (Err fault) = Err (text_fault fault)
 
 -- the snapshot that a JSON file says, where it holds these bytes or isn't held
 abbrev pub input_message : Option (List ℕ) → Result (Value feed_message) JsonInputFault
 input_message None = Err MissingFile
-input_message (Some bytes) = if nat_lt json_limit (length bytes) then Err TooLarge else tree_message (tree_of bytes)
+input_message (Some bytes) = if nat_lt json_limit (length bytes) then Err TooLarge else of_text (text_message bytes)
 
 -- what is wrong at a place in a tree
 abbrev pub at_path : List ℕ → List ℕ → List ℕ

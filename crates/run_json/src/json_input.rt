@@ -3,21 +3,17 @@ ghost use Rattle.std.specs.Prelude.{◌≡◌, ◌≢◌, Ok, Err, None, Some, I
 ghost use Rattle.std.specs.FinMap.{get};
 ghost use Rattle.rt_outside.specs.Causes.{Rose};
 ghost use Rattle.rt_outside.specs.Store.{contents_told};
-ghost use Rattle.serde_json.specs.View.{view};
-ghost use Rattle.feed_values.specs.Messages.{feed_message};
 ghost use Rattle.feed_values.specs.Views.{feed_message_value};
 ghost use Rattle.feed_values.specs.WellFormed.{IsWellFormedFeed};
-ghost use Rattle.feed_json.specs.Unform.{unform};
 ghost use Rattle.run_base.specs.Faults.{refused_text};
-ghost use Rattle.run_json.specs.JsonInputs.{TellsJsonFault, at_path, tree_of, of_tree, input_message, input_text};
+ghost use Rattle.run_json.specs.JsonInputs.{TellsJsonFault, at_path, input_message, input_text};
 ghost use Rattle.run_json.specs.declared.json_input_fault.JsonInputFault.TheVariants as fault;
 
 use crate::json_input_fault::JsonInputFault;
-use feed_json::from_json;
+use feed_json::from_text;
 use feed_values::FeedMessage;
 use rt_outside::{Files, ReadEnd, read_whole};
 use run_base::{InputFault, refused_text};
-use serde_json::Value;
 use std::alloc::{AllocError, Global};
 
 /// The most bytes that a JSON file may have.
@@ -25,8 +21,7 @@ const JSON_LIMIT: usize = 268_435_456;
 
 /// The snapshot that the JSON file of this name says, or the first thing that is wrong with it.
 ///
-/// The bytes of the file are given up before its tree is walked, and the tree before the answer. A read fault comes only
-/// where a call fails.
+/// The bytes of the file are held while they are read, and given up before the answer. A read fault comes only where a call fails.
 pub fn input_message<F: Files>(
     alloc: Global,
     files: &mut F,
@@ -40,42 +35,12 @@ pub fn input_message<F: Files>(
     ensures asked { IfSome (F.state files.new).asked (λ last. last ≡ name.now) }
     ensures read { IsErrOf result fault.ReadFault → Rose (F.state files.old).faults (F.state files.new).faults }
 {
-    let tree = input_tree(alloc, files, name)?;
-    Ok(from_json(alloc, &tree)?)
-}
-
-// The tree of the JSON file of this name.
-fn input_tree<F: Files>(alloc: Global, files: &mut F, name: &str) -> Result<Value, JsonInputFault>
-    ensures ok { IfSome (contents_told (F.state files.old).told) (λ held. IfOk result (λ tree.
-        input_message (get held name.now) ≡ of_tree (unform feed_message (view tree)))) }
-    ensures err { IfSome (contents_told (F.state files.old).told) (λ held. IfErr result (λ e.
-        e ≢ fault.ReadFault → e ≢ fault.Memory → input_message (get held name.now) ≡ Err e)) }
-    ensures asked { IfSome (F.state files.new).asked (λ last. last ≡ name.now) }
-    ensures read { IsErrOf result fault.ReadFault → Rose (F.state files.old).faults (F.state files.new).faults }
-{
     match read_whole(alloc, files, name, JSON_LIMIT) {
-        Ok(bytes) => tree_of(alloc, &bytes),
+        Ok(bytes) => Ok(from_text(alloc, &bytes)?),
         Err(ReadEnd::Absent) => Err(JsonInputFault::MissingFile),
         Err(ReadEnd::TooLarge) => Err(JsonInputFault::TooLarge),
         Err(ReadEnd::ReadFault) => Err(JsonInputFault::ReadFault),
         Err(ReadEnd::Memory) => Err(JsonInputFault::Memory),
-    }
-}
-
-// The tree of a text.
-fn tree_of(alloc: Global, text: &[u8]) -> Result<Value, JsonInputFault>
-    ensures ok { IfOk result (λ tree. tree_of text.now ≡ Some (view tree)) }
-    ensures err { IfErr result (λ e. e ≢ fault.Memory → (tree_of text.now ≡ None) × (e ≡ fault.NotJson)) }
-{
-    match Value::from_slice(alloc, text) {
-        Ok(tree) => Ok(tree),
-        Err(error) => {
-            if error.is_memory() {
-                Err(JsonInputFault::Memory)
-            } else {
-                Err(JsonInputFault::NotJson)
-            }
-        }
     }
 }
 

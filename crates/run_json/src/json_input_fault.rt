@@ -1,9 +1,9 @@
 //! Why a JSON file isn't taken.
 ghost use Rattle.std.specs.Prelude.{◌≡◌};
 ghost use Rattle.run_json.specs.declared.json_input_fault.JsonInputFault.TheVariants.{Memory};
-ghost use Rattle.run_json.specs.JsonInputs.{input_fault};
+ghost use Rattle.run_json.specs.JsonInputs.{input_fault, text_fault};
 
-use feed_json::JsonFault;
+use feed_json::{JsonFault, TextFault};
 use feed_values::Text;
 use std::alloc::AllocError;
 
@@ -48,6 +48,17 @@ impl From<JsonFault> for JsonInputFault {
             JsonFault::OutOfRange(path) => JsonInputFault::OutOfRange(path),
             JsonFault::MissingKey(path) => JsonInputFault::MissingKey(path),
             JsonFault::Memory => JsonInputFault::Memory,
+        }
+    }
+}
+
+impl From<TextFault> for JsonInputFault {
+    ghost from_gives = { λ fault e. e ≡ text_fault fault };
+
+    fn from(fault: TextFault) -> Self {
+        match fault {
+            TextFault::NotJson => JsonInputFault::NotJson,
+            TextFault::Message(fault) => JsonInputFault::from(fault),
         }
     }
 }
