@@ -163,7 +163,8 @@ fn send_snapshot<S: Sink, D: Ledger, T: Ledger>(
     let rules = HeaderRules::new();
     let header = decode_header(alloc, kept.header_parts())?;
     let places = places(alloc, 0, kept)?;
-    let rows = rows_of(alloc, kept, &places)?;
+    let listed = places.as_slice();
+    let rows = rows_of(alloc, kept, listed)?;
     judge_header(alloc, &rules, &header, moment, lines, tests)?;
     let setting = Setting {
         table: timetable,
@@ -171,7 +172,7 @@ fn send_snapshot<S: Sink, D: Ledger, T: Ledger>(
         header: &header,
         moment,
     };
-    send_entities(alloc, &setting, kept, &places, lines, out, decodes, tests)
+    send_entities(alloc, &setting, kept, listed, lines, out, decodes, tests)
 }
 
 /// Writes a line, and behind it the findings of an accepted snapshot of feed 0, which is the first one of all. It answers whether

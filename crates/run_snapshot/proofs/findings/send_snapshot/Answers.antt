@@ -5,6 +5,7 @@ use Rattle.rule_history.specs.Answered.{Heads, tables_of}
 use Rattle.snapshot_keys.specs.judging.Seats.{Rising, seats}
 use Rattle.snapshot_keys.specs.judging.Whole.{header_found, rows_alone}
 use Rattle.snapshot_keys.specs.judging.Judged.{first_heads, seat_rows, found_at_seats, snapshot_found}
+use Rattle.snapshot_keys.specs.Places.{placed}
 use Rattle.snapshot_keys.specs.judging.OneSnapshotProofs.{seats_rise}
 use Rattle.rt_report.specs.FindingLines.{AddsLines}
 use Rattle.run_snapshot.specs.Sending.{Sends, SendsPart}
@@ -13,7 +14,7 @@ use Rattle.run_snapshot.proofs.Reports.{as_many_places}
 use Rattle.run_snapshot.proofs.findings.send_snapshot.Goals as goal
 
 pub rows_of-requires-clause-rising : goal.rows_of-requires-clause-rising
-rows_of-requires-clause-rising g c = subst Rising (sym c.in_ok-places.ensures.seats_are) (seats_rise 0 (entities_of c.args.kept.now))
+rows_of-requires-clause-rising g c = subst Rising (sym (ap (placed c.args.kept.now) c.as_slice-listed.ensures.value ∙ c.in_ok-places.ensures.seats_are)) (seats_rise 0 (entities_of c.args.kept.now))
 
 -- the header's findings are held back, and those of the entities are sent
 pub returns-clause-sent : goal.returns-clause-sent
@@ -29,7 +30,7 @@ returns-clause-sent g c =
     (subst (λ h. AddsLines c.args.lines.now c.judge_header.new.lines (header_found t (rows_alone (seat_rows es)) (first_heads h c.args.moment) 0)) said (c.in_ok-judge_header.ensures.added t (rows_alone (seat_rows es)))) c.send_entities.new.lines
     (subst (Sends before new c.judge_header.new.lines c.send_entities.new.lines)
     (c.in_ok-rows.ensures.found t (first_heads (feed_header_value c.in_ok-header.header) c.args.moment)
-    ∙ ap (λ s. found_at_seats t (seat_rows s) (first_heads (feed_header_value c.in_ok-header.header) c.args.moment) s) c.in_ok-places.ensures.seats_are
+    ∙ ap (λ s. found_at_seats t (seat_rows s) (first_heads (feed_header_value c.in_ok-header.header) c.args.moment) s) (ap (placed c.args.kept.now) c.as_slice-listed.ensures.value ∙ c.in_ok-places.ensures.seats_are)
     ∙ ap (λ h. found_at_seats t (seat_rows es) (first_heads h c.args.moment) es) said) sent))
     c.send_entities.ensures.sent
 
@@ -46,7 +47,7 @@ returns-clause-part g c =
     (subst (λ h. AddsLines c.args.lines.now c.judge_header.new.lines (header_found t (rows_alone (seat_rows es)) (first_heads h c.args.moment) 0)) said (c.in_ok-judge_header.ensures.added t (rows_alone (seat_rows es))))
     (subst (SendsPart before new c.judge_header.new.lines)
     (c.in_ok-rows.ensures.found t (first_heads (feed_header_value c.in_ok-header.header) c.args.moment)
-    ∙ ap (λ s. found_at_seats t (seat_rows s) (first_heads (feed_header_value c.in_ok-header.header) c.args.moment) s) c.in_ok-places.ensures.seats_are
+    ∙ ap (λ s. found_at_seats t (seat_rows s) (first_heads (feed_header_value c.in_ok-header.header) c.args.moment) s) (ap (placed c.args.kept.now) c.as_slice-listed.ensures.value ∙ c.in_ok-places.ensures.seats_are)
     ∙ ap (λ h. found_at_seats t (seat_rows es) (first_heads h c.args.moment) es) said) part))
     c.send_entities.ensures.part
 
@@ -72,14 +73,14 @@ returns-in_err-judge_header-clause-most g c = record { decodes = omega arith; te
 
 pub returns-clause-counted : goal.returns-clause-counted
 returns-clause-counted g c =
-    let many = as_many_places c.args.kept.now c.in_ok-places.places.items c.in_ok-places.ensures.seats_are in
+    let many = as_many_places c.args.kept.now c.as_slice-listed.result.now (ap (placed c.args.kept.now) c.as_slice-listed.ensures.value ∙ c.in_ok-places.ensures.seats_are) in
     more_ok c.send_entities.result
     (λ by. record { decodes = omega (arith, many, by.decodes); tests = omega (arith, many, c.in_ok-judge_header.ensures.ticked, by.tests) })
     c.send_entities.ensures.counted
 
 pub returns-clause-most : goal.returns-clause-most
 returns-clause-most g c =
-    let many = as_many_places c.args.kept.now c.in_ok-places.places.items c.in_ok-places.ensures.seats_are in
+    let many = as_many_places c.args.kept.now c.as_slice-listed.result.now (ap (placed c.args.kept.now) c.as_slice-listed.ensures.value ∙ c.in_ok-places.ensures.seats_are) in
     record {
       decodes = omega (arith, many, c.send_entities.ensures.most.decodes);
       tests = omega (arith, many, c.in_ok-judge_header.ensures.ticked, c.send_entities.ensures.most.tests);
