@@ -1,88 +1,71 @@
 //! The pairing rows of a kept snapshot.
 ghost use Rattle.std.specs.Prelude.{◌≡◌, ◌<◌, Option, Some, IfOk, length};
-ghost use Rattle.feed_values.specs.Snapshot.{entity_of, entity_payloads};
-ghost use Rattle.timetable.specs.Timetables.{Tables};
-ghost use Rattle.rule_table.specs.Answers.{Heads};
-ghost use Rattle.rule_table.specs.declared.key.EntityKey.{EntityKey};
-ghost use Rattle.pairing_rules.specs.ByKind.{AreAlike};
-ghost use Rattle.judging.specs.Seats.{Rising};
-ghost use Rattle.judging.specs.Judged.{found_at_seats, put_rows, seat_rows};
+ghost use Rattle.judging.specs.Judged.{seat_rows};
 ghost use Rattle.snapshot_keys.specs.Places.{AreWithin, placed};
-ghost use Rattle.snapshot_keys.specs.Rowed.{ids_rows, kind_rows, rows_by};
 
-use crate::ids::{ReadIds, update_ids, vehicle_ids};
+use crate::ids::{ReadIds, both_ids};
+use crate::kept_rows::KeptRows;
 use feed_stream::Kept;
-use pairing_rules::{PairIndex, PairRow};
 use rule_table::{EntityKey, Kind};
+use sorted_rows::{Row, SortedRows};
 use std::alloc::{AllocError, Global};
 use std::collections::BTreeMap;
 
-// The ids of a trip update or of a vehicle position of an entity, by its bytes.
-fn ids_of(alloc: Global, kind: Kind, payload: &[u8]) -> Result<Option<ReadIds>, AllocError>
-    ensures { IfOk result (λ ids. (key : EntityKey) → ids_rows kind key ids ≡ kind_rows kind key (entity_of payload.now)) }
-{
-    match kind {
-        Kind::TripUpdate => update_ids(alloc, payload),
-        Kind::Vehicle => vehicle_ids(alloc, payload),
-    }
-}
-
 // Puts in the row with these ids.
-fn add_row(
-    alloc: Global,
-    index: PairIndex,
+fn add_row<'a>(
+    rows: &mut SortedRows<'a>,
     kind: Kind,
-    key: &EntityKey,
-    ids: ReadIds,
-) -> Result<PairIndex, AllocError>
-    ensures { IfOk result (λ next. next ≡ put_rows index (ids_rows kind key.now (Some ids))) }
-{
-    let id = key.id.clone()?;
-    let next = index.add(PairRow {
+    key: &'a EntityKey,
+    ids: ReadIds<'a>,
+) -> Result<(), AllocError> {
+    rows.push(Row {
         kind,
-        feed: key.feed,
-        id,
-        occurrence: key.occurrence,
+        key,
         trip: ids.trip,
         vehicle: ids.vehicle,
-    })?;
-    Ok(next)
+    })
 }
 
-// Puts in the rows of one kind.
-fn add_rows(
-    alloc: Global,
-    index: PairIndex,
-    kind: Kind,
-    kept: &Kept,
-    places: &BTreeMap<EntityKey, usize>,
-) -> Result<PairIndex, AllocError>
-    requires { AreWithin kept.now places.now.entries }
-    ensures { IfOk result (λ next. next ≡ put_rows index (rows_by kind (placed kept.now places.now.entries))) }
-{
-    let mut index = index;
-    for (key, place) in places {
-        if let Some(ids) = ids_of(alloc, kind, kept.entity(*place))? {
-            index = add_row(alloc, index, kind, key, ids)?;
-        }
+// Puts in the rows of an entity, by its bytes.
+fn add_rows<'a>(
+    rows: &mut SortedRows<'a>,
+    key: &'a EntityKey,
+    entity: &'a [u8],
+) -> Result<(), AllocError> {
+    let ids = both_ids(entity)?;
+    if let Some(update) = ids.update {
+        add_row(rows, Kind::TripUpdate, key, update)?;
     }
-    Ok(index)
+    if let Some(vehicle) = ids.vehicle {
+        add_row(rows, Kind::Vehicle, key, vehicle)?;
+    }
+    Ok(())
 }
 
-/// The pairing rows of the entities at these places of a kept snapshot, as an index: of each kind those of the rows in the order
-/// of keys, and in their order. So the entities have the same findings with both.
-pub fn rows_of(
+// Those of all entities at these places, in the order of keys.
+fn all_rows<'a>(
     alloc: Global,
-    kept: &Kept,
-    places: &BTreeMap<EntityKey, usize>,
-) -> Result<PairIndex, AllocError>
-    requires within { AreWithin kept.now places.now.entries }
-    requires rising { Rising (placed kept.now places.now.entries) }
-    ensures alike { IfOk result (λ rows. AreAlike rows (seat_rows (placed kept.now places.now.entries))) }
-    ensures found { IfOk result (λ rows. (t : Option Tables) (heads : Heads) → found_at_seats t rows heads (placed kept.now places.now.entries)
-        ≡ found_at_seats t (seat_rows (placed kept.now places.now.entries)) heads (placed kept.now places.now.entries)) }
+    kept: &'a Kept,
+    places: &'a BTreeMap<EntityKey, usize>,
+) -> Result<SortedRows<'a>, AllocError>
+    requires { AreWithin kept.now places.now.entries }
 {
-    let updates = add_rows(alloc, PairIndex::new(alloc), Kind::TripUpdate, kept, places)?;
-    let rows = add_rows(alloc, updates, Kind::Vehicle, kept, places)?;
+    let mut rows = SortedRows::new(alloc);
+    for (key, place) in places {
+        add_rows(&mut rows, key, kept.entity(*place))?;
+    }
     Ok(rows)
+}
+
+/// The pairing rows of the entities at these places of a kept snapshot, in the order of keys.
+pub fn rows_of<'a>(
+    alloc: Global,
+    kept: &'a Kept,
+    places: &'a BTreeMap<EntityKey, usize>,
+) -> Result<KeptRows<'a>, AllocError>
+    requires { AreWithin kept.now places.now.entries }
+{
+    let mut rows = all_rows(alloc, kept, places)?;
+    rows.sort()?;
+    Ok(KeptRows { kept, places, rows })
 }
