@@ -8,17 +8,18 @@ use std::alloc::AllocError;
 pub(crate) fn sort<K: Ord + Copy + Drop, V>(entries: &mut Vec<(K, V)>) -> Result<(), AllocError>
     ensures { OnOk result (Sorts K.cmp entries.old.items entries.new.items) }
 {
-    entries.sort_by_key(|entry| entry.0)
+    entries.sort_by_key(|entry| entry.0)?;
+    Ok(())
 }
 
 /// The value that was put in first under a key.
-pub(crate) fn first<K: Ord + Copy, V: Copy>(entries: &[(K, V)], key: K) -> Option<V>
+pub(crate) fn first<K: Ord + Copy, V: Copy + Drop>(entries: &[(K, V)], key: K) -> Option<V>
     ensures { (put : List (K × V)) → Sorts K.cmp put entries.now → result ≡ first_value K.cmp put key }
 {
     let at = entries.partition_point(|entry| entry.0.cmp(&key).is_lt());
     match entries.get(at) {
-        Some(entry) if entry.0.cmp(&key).is_eq() => Some(entry.1),
-        _ => None,
+        Some(entry) => entry.0.cmp(&key).is_eq().then_some(entry.1),
+        None => None,
     }
 }
 
