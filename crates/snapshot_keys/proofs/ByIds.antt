@@ -1,39 +1,53 @@
--- Rows by the ids that bytes give are those of the entity.
-use Rattle.std.proofs.Common.{◌≡◌, ◌<◌, ◌+◌, ℕ, List, [], ◌∷◌, drop, get_or, length, Some, None, refl, ap, sym, ◌∙◌}
-use Rattle.std.proofs.lemmas.List.{drop_more}
+-- Rows by the ids that bytes give are those of the entity, and keys that compare alike have one id.
+use Rattle.std.proofs.Common.{◌≡◌, ◌++◌, List, Some, None, refl, ap, sym, ◌∙◌, subst}
 use Rattle.std.specs.Prelude.{option_map}
+use Rattle.std.specs.Ordering.{is_eq}
+use Rattle.std.specs.declared.cmp.Ordering.TheVariants as order
 use Rattle.std.specs.declared.option.Option.{Option}
+use Rattle.std.proofs.lemmas.List.{append_assoc}
 use Rattle.feed_values.specs.Schema.{Value}
-use Rattle.feed_values.specs.Messages.{trip_update, vehicle_position}
-use Rattle.feed_values.specs.Snapshot.{entity_of, entity_payloads}
+use Rattle.feed_values.specs.Messages.{entity, trip_update, vehicle_position}
 use Rattle.rule_table.specs.declared.key.EntityKey.{EntityKey}
-use Rattle.rule_table.specs.declared.kind.Kind.{Kind}
 use Rattle.rule_table.specs.declared.kind.Kind.TheVariants as kind
-use Rattle.rule_table.specs.Pairs.{PairRow, update_rows, vehicle_rows}
-use Rattle.judging.specs.Judged.{put_rows}
-use Rattle.judging.proofs.Rowed.{put_append}
-use Rattle.snapshot_keys.specs.declared.ids.ReadIds.{ReadIds}
-use Rattle.snapshot_keys.specs.declared.placing.EntityPlace.{EntityPlace}
-use Rattle.snapshot_keys.specs.Ids.{update_ids, vehicle_ids}
-use Rattle.snapshot_keys.specs.Places.{Places, entity_at, placed}
-use Rattle.snapshot_keys.specs.Rowed.{ids_rows, kind_rows, rows_by}
+use Rattle.rule_table.specs.Judged.{update_of}
+use Rattle.rule_table.specs.Order.{key_cmp}
+use Rattle.rule_table.specs.Pairs.{GivenIds, PairRow, of_update, of_vehicle, rows_of, update_rows, vehicle_of, vehicle_rows}
+use Rattle.rule_table.proofs.SameKeys.{key_is, same-key}
+use Rattle.sorted_rows.specs.declared.sorted_rows.SortedRows.{SortedRows}
+use Rattle.sorted_rows.specs.Rows.{Holds}
+use Rattle.snapshot_keys.specs.Rowed.{given_rows}
 
-pub rows_of_update : (key : EntityKey) (u : Option (Value trip_update)) → ids_rows kind.TripUpdate key (option_map update_ids u) ≡ update_rows key u
+pub same_id : (k l : EntityKey) → key_cmp k l ≡ order.Equal → l.id ≡ k.id
+same_id k l h = ap (λ x. x.id) (sym (key_is k l (sym (same-key k l) ∙ ap is_eq h)))
+
+rows_of_update : (key : EntityKey) (u : Option (Value trip_update)) → given_rows kind.TripUpdate key (option_map of_update u) ≡ update_rows key u
 rows_of_update key None = refl
 rows_of_update key (Some u) = refl
 
-pub rows_of_vehicle : (key : EntityKey) (v : Option (Value vehicle_position)) → ids_rows kind.Vehicle key (option_map vehicle_ids v) ≡ vehicle_rows key v
+rows_of_vehicle : (key : EntityKey) (v : Option (Value vehicle_position)) → given_rows kind.Vehicle key (option_map of_vehicle v) ≡ vehicle_rows key v
 rows_of_vehicle key None = refl
 rows_of_vehicle key (Some v) = refl
 
 -- the rows of an entity more
-pub put_next : (bytes : List ℕ) (K : Kind) (index next : List PairRow) (es : Places) (i : ℕ) (d : EntityPlace) (ids : Option ReadIds) (p : List ℕ) → i < length es → get_or (entity_payloads bytes) (get_or es i d).number [] ≡ p →
-    next ≡ put_rows index (ids_rows K (get_or es i d).key ids) → ids_rows K (get_or es i d).key ids ≡ kind_rows K (get_or es i d).key (entity_of p) →
-    put_rows next (rows_by K (placed bytes (drop (i + 1) es))) ≡ put_rows index (rows_by K (placed bytes (drop i es)))
-put_next bytes K index next es i d ids p l at put is =
-    ap (λ x. put_rows x (rows_by K (placed bytes (drop (i + 1) es)))) (put ∙ ap (put_rows index) (is ∙ ap (λ q. kind_rows K e.key (entity_of q)) (sym at)))
-    ∙ sym (put_append index (kind_rows K e.key (entity_at bytes e.number)) (rows_by K (placed bytes (drop (i + 1) es))))
-    ∙ sym (ap (λ xs. put_rows index (rows_by K (placed bytes xs))) (drop_more es i d l))
-  where
-    e : EntityPlace
-    e = get_or es i d
+pub entity_more : (key : EntityKey) (e : Value entity) (before : List PairRow) (update vehicle : Option GivenIds) (next : SortedRows) → update ≡ option_map of_update (update_of e) → vehicle ≡ option_map of_vehicle (vehicle_of e)
+    → Holds next ((before ++ given_rows kind.TripUpdate key update) ++ given_rows kind.Vehicle key vehicle) → Holds next (before ++ rows_of key e)
+entity_more key e before update vehicle next u v h =
+    subst (Holds next)
+    (append_assoc before (given_rows kind.TripUpdate key update) (given_rows kind.Vehicle key vehicle)
+    ∙ ap (λ xs. before ++ (xs ++ given_rows kind.Vehicle key vehicle)) (ap (given_rows kind.TripUpdate key) u ∙ rows_of_update key (update_of e))
+    ∙ ap (λ xs. before ++ (update_rows key (update_of e) ++ xs)) (ap (given_rows kind.Vehicle key) v ∙ rows_of_vehicle key (vehicle_of e)))
+    h
+
+-- ---- entity by entity
+-- the rows that were put in, and those that are left, are all
+pub record SoFar (s : SortedRows) (left all : List PairRow) : Type 0 where
+  pub done : List PairRow
+  pub held : Holds s done
+  pub are : done ++ left ≡ all
+
+pub so_far_next : (s next : SortedRows) (rows left rest all : List PairRow) (f : SoFar s left all) → left ≡ rows ++ rest → ((before : List PairRow) → Holds s before → Holds next (before ++ rows)) → SoFar next rest all
+so_far_next s next rows left rest all f first put = record {
+  done = f.done ++ rows;
+  held = put f.done f.held;
+  are = append_assoc f.done rows rest ∙ ap (λ xs. f.done ++ xs) (sym first) ∙ f.are;
+}

@@ -26,3 +26,7 @@ entities_next bytes ns n l before =
 -- the snapshot has the entity of the next place, and those of the places behind it
 pub within_next : (bytes : List ℕ) (es : Places) (i : ℕ) (d : EntityPlace) → i < length es → AreWithin bytes (drop i es) → ((get_or es i d).number < length (entity_payloads bytes)) × AreWithin bytes (drop (i + 1) es)
 within_next bytes es i d l h = subst (AreWithin bytes) (drop_more es i d l) h
+
+-- the place that comes next in a list
+pub next_is : (es : Places) (i : ℕ) (place : EntityPlace) → i < length es → place ≡ get_or es i place → drop i es ≡ place ∷ drop (i + 1) es
+next_is es i place l is = drop_more es i place l ∙ ap (λ x. x ∷ drop (i + 1) es) (sym is)

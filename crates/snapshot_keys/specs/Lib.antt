@@ -1,7 +1,6 @@
 pub mod judging
 pub use Rattle.judging.specs.Judged
 pub use Rattle.judging.specs.Seats
-pub use Rattle.pairing_rules.specs.ByKind
 pub use Rattle.rule_table.specs.Pairs
 pub mod Ids
 pub mod Places

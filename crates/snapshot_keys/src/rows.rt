@@ -1,99 +1,82 @@
 //! The pairing rows of a kept snapshot.
-ghost use Rattle.std.specs.Prelude.{◌≡◌, ◌<◌, Option, Some, IfOk, length};
-ghost use Rattle.feed_values.specs.Snapshot.{entity_of, entity_payloads};
-ghost use Rattle.timetable.specs.Timetables.{Tables};
-ghost use Rattle.rule_table.specs.Answers.{Heads};
-ghost use Rattle.rule_table.specs.declared.key.EntityKey.{EntityKey};
-ghost use Rattle.pairing_rules.specs.ByKind.{AreAlike};
-ghost use Rattle.judging.specs.Seats.{Rising};
-ghost use Rattle.judging.specs.Judged.{found_at_seats, put_rows, seat_rows};
-ghost use Rattle.snapshot_keys.specs.Places.{AreWithin, entity_at, placed};
-ghost use Rattle.snapshot_keys.specs.Rowed.{ids_rows, kind_rows, rows_by};
+ghost use Rattle.std.specs.Prelude.{◌≡◌, ◌++◌, List, IfOk, OnOk, option_map};
+ghost use Rattle.feed_values.specs.Snapshot.{entity_of};
+ghost use Rattle.rule_table.specs.Pairs.{PairRow, rows_of};
+ghost use Rattle.judging.specs.Judged.{seat_rows};
+ghost use Rattle.sorted_rows.specs.Rows.{Holds};
+ghost use Rattle.snapshot_keys.specs.Ids.{given_ids};
+ghost use Rattle.snapshot_keys.specs.Places.{AreWithin, placed};
+ghost use Rattle.snapshot_keys.specs.Rowed.{given_rows, rows_in};
 
-use crate::ids::{ReadIds, update_ids, vehicle_ids};
+use crate::ids::{ReadIds, both_ids};
+use crate::kept_rows::KeptRows;
 use crate::placing::EntityPlace;
 use feed_stream::Kept;
-use pairing_rules::{PairIndex, PairRow};
 use rule_table::{EntityKey, Kind};
+use sorted_rows::{Row, SortedRows};
 use std::alloc::{AllocError, Global};
 
-// The ids of a trip update or of a vehicle position of an entity, by its bytes.
-fn ids_of(alloc: Global, kind: Kind, payload: &[u8]) -> Result<Option<ReadIds>, AllocError>
-    ensures { IfOk result (λ ids. (key : EntityKey) → ids_rows kind key ids ≡ kind_rows kind key (entity_of payload.now)) }
-{
-    match kind {
-        Kind::TripUpdate => update_ids(alloc, payload),
-        Kind::Vehicle => vehicle_ids(alloc, payload),
-    }
-}
-
-// Puts in the row with these ids.
-fn add_row(
-    alloc: Global,
-    index: PairIndex,
+// Puts in the row with these ids, where there are any.
+fn add_row<'a>(
+    rows: &mut SortedRows<'a>,
     kind: Kind,
-    key: &EntityKey,
-    ids: ReadIds,
-) -> Result<PairIndex, AllocError>
-    ensures { IfOk result (λ next. next ≡ put_rows index (ids_rows kind key.now (Some ids))) }
+    key: &'a EntityKey,
+    ids: Option<ReadIds<'a>>,
+) -> Result<(), AllocError>
+    ensures { OnOk result ((before : List PairRow) → Holds rows.old before → Holds rows.new (before ++ given_rows kind key.now (option_map given_ids ids.entry))) }
 {
-    let id = key.id.clone()?;
-    let next = index.add(PairRow {
+    let Some(ids) = ids else {
+        return Ok(());
+    };
+    rows.push(Row {
         kind,
-        feed: key.feed,
-        id,
-        occurrence: key.occurrence,
+        key,
         trip: ids.trip,
         vehicle: ids.vehicle,
     })?;
-    Ok(next)
+    Ok(())
 }
 
-// Puts in the rows of one kind of one entity.
-fn and_rows(
-    alloc: Global,
-    index: PairIndex,
-    kind: Kind,
-    kept: &Kept,
-    place: &EntityPlace,
-) -> Result<PairIndex, AllocError>
-    requires { place.now.number < length (entity_payloads kept.now) }
-    ensures { IfOk result (λ next. next ≡ put_rows index (kind_rows kind place.now.key (entity_at kept.now place.now.number))) }
+// Puts in the rows of an entity, by its bytes.
+fn add_rows<'a>(
+    rows: &mut SortedRows<'a>,
+    key: &'a EntityKey,
+    entity: &'a [u8],
+) -> Result<(), AllocError>
+    ensures { OnOk result ((before : List PairRow) → Holds rows.old before → Holds rows.new (before ++ rows_of key.now (entity_of entity.now))) }
 {
-    match ids_of(alloc, kind, kept.entity(place.number))? {
-        Some(ids) => add_row(alloc, index, kind, &place.key, ids),
-        None => Ok(index),
-    }
+    let ids = both_ids(entity)?;
+    add_row(rows, Kind::TripUpdate, key, ids.update)?;
+    add_row(rows, Kind::Vehicle, key, ids.vehicle)?;
+    Ok(())
 }
 
-// Puts in the rows of one kind.
-fn add_rows(
+// Those of all entities at these places, in the order of keys.
+fn all_rows<'a>(
     alloc: Global,
-    index: PairIndex,
-    kind: Kind,
-    kept: &Kept,
-    places: &[EntityPlace],
-) -> Result<PairIndex, AllocError>
+    kept: &'a Kept,
+    places: &'a [EntityPlace],
+) -> Result<SortedRows<'a>, AllocError>
     requires { AreWithin kept.now places.now }
-    ensures { IfOk result (λ next. next ≡ put_rows index (rows_by kind (placed kept.now places.now))) }
+    ensures { IfOk result (λ rows. Holds rows (seat_rows (placed kept.now places.now))) }
 {
-    let mut index = index;
+    let mut rows = SortedRows::new(alloc);
     for place in places {
-        index = and_rows(alloc, index, kind, kept, place)?;
+        add_rows(&mut rows, &place.key, kept.entity(place.number))?;
     }
-    Ok(index)
+    Ok(rows)
 }
 
-/// The pairing rows of the entities at these places of a kept snapshot, as an index: of each kind those of the rows in the order
-/// of keys, and in their order. So the entities have the same findings with both.
-pub fn rows_of(alloc: Global, kept: &Kept, places: &[EntityPlace]) -> Result<PairIndex, AllocError>
-    requires within { AreWithin kept.now places.now }
-    requires rising { Rising (placed kept.now places.now) }
-    ensures alike { IfOk result (λ rows. AreAlike rows (seat_rows (placed kept.now places.now))) }
-    ensures found { IfOk result (λ rows. (t : Option Tables) (heads : Heads) → found_at_seats t rows heads (placed kept.now places.now)
-        ≡ found_at_seats t (seat_rows (placed kept.now places.now)) heads (placed kept.now places.now)) }
+/// The pairing rows of the entities at these places of a kept snapshot, in the order of keys.
+pub fn rows_of<'a>(
+    alloc: Global,
+    kept: &'a Kept,
+    places: &'a [EntityPlace],
+) -> Result<KeptRows<'a>, AllocError>
+    requires { AreWithin kept.now places.now }
+    ensures { IfOk result (λ rows. rows_in rows ≡ seat_rows (placed kept.now places.now)) }
 {
-    let updates = add_rows(alloc, PairIndex::new(alloc), Kind::TripUpdate, kept, places)?;
-    let rows = add_rows(alloc, updates, Kind::Vehicle, kept, places)?;
-    Ok(rows)
+    let mut rows = all_rows(alloc, kept, places)?;
+    rows.sort()?;
+    Ok(KeptRows { kept, places, rows })
 }

@@ -1,5 +1,5 @@
 //! What a slot of an entity holds, by one walk along its fields.
-ghost use Rattle.std.specs.Prelude.{◌≡◌, ◌∷◌, [], Some, option_copied};
+ghost use Rattle.std.specs.Prelude.{◌≡◌, ◌∷◌, [], Some, None, option_copied};
 ghost use Rattle.std.specs.Option.{option_or};
 ghost use Rattle.rt_wire.specs.Placed.{placed_field};
 ghost use Rattle.feed_values.specs.Meaning.{fields, in_slot, payload_in};
@@ -8,6 +8,16 @@ ghost use Rattle.feed_codec.specs.LastPayloads as paths;
 use feed_codec::{last_payload, payload_of};
 use rt_wire::{Fields, RawField};
 
+// The numbers of slots. (GTFS Realtime Reference 2.0, the protocol buffer's definition.)
+const TRIP_UPDATE: u32 = 3;
+
+const VEHICLE: u32 = 4;
+
+const VEHICLE_OF_UPDATE: u32 = 3;
+
+const VEHICLE_OF_POSITION: u32 = 8;
+
+/// Of an update, and of a vehicle position.
 const TRIP: u32 = 1;
 
 /// Of a trip descriptor, and of a vehicle descriptor.
@@ -32,6 +42,18 @@ fn id_after<'a>(field: &RawField<'a>, slot: u32, before: Option<&'a [u8]>) -> Op
 }
 
 impl<'a> SlotIds<'a> {
+    fn none() -> SlotIds<'a>
+        ensures payload { option_copied result.payload ≡ None }
+        ensures trip { option_copied result.trip ≡ None }
+        ensures vehicle { option_copied result.vehicle ≡ None }
+    {
+        SlotIds {
+            payload: None,
+            trip: None,
+            vehicle: None,
+        }
+    }
+
     /// With a payload more, whose vehicle is slot `vehicle`.
     fn and_in(self, payload: &'a [u8], vehicle: u32) -> SlotIds<'a>
         ensures payload { option_copied result.payload ≡ Some payload.now }
@@ -66,22 +88,38 @@ impl<'a> SlotIds<'a> {
             None => self,
         }
     }
+}
 
-    /// What slot `slot` of an entity holds, whose vehicle is slot `vehicle` there. Behind a fault nothing is read.
-    pub fn at(entity: &'a [u8], slot: u32, vehicle: u32) -> SlotIds<'a>
-        ensures payload { option_copied result.payload ≡ paths.last_at [] slot (fields entity.now) }
-        ensures trip { option_copied result.trip ≡ paths.last_at (slot ∷ 1 ∷ []) 1 (fields entity.now) }
-        ensures vehicle { option_copied result.vehicle ≡ paths.last_at (slot ∷ vehicle ∷ []) 1 (fields entity.now) }
+/// What both slots of an entity hold.
+#[derive(Clone, Copy)]
+pub struct EntityIds<'a> {
+    pub update: SlotIds<'a>,
+    pub vehicle: SlotIds<'a>,
+}
+
+impl<'a> EntityIds<'a> {
+    ghost use Rattle.snapshot_keys.specs.Ids.{AreLast};
+
+    /// By one walk along the fields of an entity. Behind a fault nothing is read.
+    pub fn at(entity: &'a [u8]) -> EntityIds<'a>
+        ensures update { AreLast result.update 3 3 (fields entity.now) }
+        ensures vehicle { AreLast result.vehicle 4 8 (fields entity.now) }
     {
-        let mut found = SlotIds {
-            payload: None,
-            trip: None,
-            vehicle: None,
+        let mut found = EntityIds {
+            update: SlotIds::none(),
+            vehicle: SlotIds::none(),
         };
         let mut fields = Fields::new(entity);
         while let Some(field) = fields.next() {
             match field {
-                Ok(field) => found = found.and_field(&field, slot, vehicle),
+                Ok(field) => {
+                    found.update = found
+                        .update
+                        .and_field(&field, TRIP_UPDATE, VEHICLE_OF_UPDATE);
+                    found.vehicle = found
+                        .vehicle
+                        .and_field(&field, VEHICLE, VEHICLE_OF_POSITION);
+                }
                 Err(_) => return found,
             }
         }

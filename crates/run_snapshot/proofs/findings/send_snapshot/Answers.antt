@@ -2,19 +2,15 @@ use Rattle.std.proofs.Common.{◌≡◌, ◌∙◌, ap, arith, sym, subst}
 use Rattle.feed_values.specs.Snapshot.{entities_of, header_of}
 use Rattle.feed_values.specs.Views.{feed_header_value}
 use Rattle.rule_history.specs.Answered.{Heads, tables_of}
-use Rattle.snapshot_keys.specs.judging.Seats.{Rising, seats}
+use Rattle.snapshot_keys.specs.judging.Seats.{seats}
 use Rattle.snapshot_keys.specs.judging.Whole.{header_found, rows_alone}
 use Rattle.snapshot_keys.specs.judging.Judged.{first_heads, seat_rows, found_at_seats, snapshot_found}
 use Rattle.snapshot_keys.specs.Places.{placed}
-use Rattle.snapshot_keys.specs.judging.OneSnapshotProofs.{seats_rise}
 use Rattle.rt_report.specs.FindingLines.{AddsLines}
 use Rattle.run_snapshot.specs.Sending.{Sends, SendsPart}
 use Rattle.run_snapshot.proofs.Sent.{sends_behind, part_behind, more_ok, more_err, none_sent}
 use Rattle.run_snapshot.proofs.Reports.{as_many_places}
 use Rattle.run_snapshot.proofs.findings.send_snapshot.Goals as goal
-
-pub rows_of-requires-clause-rising : goal.rows_of-requires-clause-rising
-rows_of-requires-clause-rising g c = subst Rising (sym (ap (placed c.args.kept.now) c.as_slice-listed.ensures.value ∙ c.in_ok-places.ensures.seats_are)) (seats_rise 0 (entities_of c.args.kept.now))
 
 -- the header's findings are held back, and those of the entities are sent
 pub returns-clause-sent : goal.returns-clause-sent
@@ -29,7 +25,7 @@ returns-clause-sent g c =
     (λ sent. sends_behind before new c.args.lines.now c.judge_header.new.lines (header_found t (rows_alone (seat_rows es)) heads 0) (found_at_seats t (seat_rows es) heads es)
     (subst (λ h. AddsLines c.args.lines.now c.judge_header.new.lines (header_found t (rows_alone (seat_rows es)) (first_heads h c.args.moment) 0)) said (c.in_ok-judge_header.ensures.added t (rows_alone (seat_rows es)))) c.send_entities.new.lines
     (subst (Sends before new c.judge_header.new.lines c.send_entities.new.lines)
-    (c.in_ok-rows.ensures.found t (first_heads (feed_header_value c.in_ok-header.header) c.args.moment)
+    (ap (λ rows. found_at_seats t rows (first_heads (feed_header_value c.in_ok-header.header) c.args.moment) (placed c.args.kept.now c.as_slice-listed.result.now)) c.in_ok-rows.ensures
     ∙ ap (λ s. found_at_seats t (seat_rows s) (first_heads (feed_header_value c.in_ok-header.header) c.args.moment) s) (ap (placed c.args.kept.now) c.as_slice-listed.ensures.value ∙ c.in_ok-places.ensures.seats_are)
     ∙ ap (λ h. found_at_seats t (seat_rows es) (first_heads h c.args.moment) es) said) sent))
     c.send_entities.ensures.sent
@@ -46,7 +42,7 @@ returns-clause-part g c =
     (λ part. part_behind before new c.args.lines.now c.judge_header.new.lines (header_found t (rows_alone (seat_rows es)) heads 0) (found_at_seats t (seat_rows es) heads es)
     (subst (λ h. AddsLines c.args.lines.now c.judge_header.new.lines (header_found t (rows_alone (seat_rows es)) (first_heads h c.args.moment) 0)) said (c.in_ok-judge_header.ensures.added t (rows_alone (seat_rows es))))
     (subst (SendsPart before new c.judge_header.new.lines)
-    (c.in_ok-rows.ensures.found t (first_heads (feed_header_value c.in_ok-header.header) c.args.moment)
+    (ap (λ rows. found_at_seats t rows (first_heads (feed_header_value c.in_ok-header.header) c.args.moment) (placed c.args.kept.now c.as_slice-listed.result.now)) c.in_ok-rows.ensures
     ∙ ap (λ s. found_at_seats t (seat_rows s) (first_heads (feed_header_value c.in_ok-header.header) c.args.moment) s) (ap (placed c.args.kept.now) c.as_slice-listed.ensures.value ∙ c.in_ok-places.ensures.seats_are)
     ∙ ap (λ h. found_at_seats t (seat_rows es) (first_heads h c.args.moment) es) said) part))
     c.send_entities.ensures.part
