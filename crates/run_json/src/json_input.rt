@@ -5,8 +5,9 @@ ghost use Rattle.rt_outside.specs.Causes.{Rose};
 ghost use Rattle.rt_outside.specs.Store.{contents_told};
 ghost use Rattle.feed_values.specs.Views.{feed_message_value};
 ghost use Rattle.feed_values.specs.WellFormed.{IsWellFormedFeed};
+ghost use Rattle.feed_json.specs.FromText.{text_message};
 ghost use Rattle.run_base.specs.Faults.{refused_text};
-ghost use Rattle.run_json.specs.JsonInputs.{TellsJsonFault, at_path, input_message, input_text};
+ghost use Rattle.run_json.specs.JsonInputs.{TellsJsonFault, at_path, input_message, input_text, of_text};
 ghost use Rattle.run_json.specs.declared.json_input_fault.JsonInputFault.TheVariants as fault;
 
 use crate::json_input_fault::JsonInputFault;
@@ -36,11 +37,24 @@ pub fn input_message<F: Files>(
     ensures read { IsErrOf result fault.ReadFault → Rose (F.state files.old).faults (F.state files.new).faults }
 {
     match read_whole(alloc, files, name, JSON_LIMIT) {
-        Ok(bytes) => Ok(from_text(alloc, &bytes)?),
+        Ok(bytes) => message_of(alloc, &bytes),
         Err(ReadEnd::Absent) => Err(JsonInputFault::MissingFile),
         Err(ReadEnd::TooLarge) => Err(JsonInputFault::TooLarge),
         Err(ReadEnd::ReadFault) => Err(JsonInputFault::ReadFault),
         Err(ReadEnd::Memory) => Err(JsonInputFault::Memory),
+    }
+}
+
+// The snapshot that a text says.
+fn message_of(alloc: Global, text: &[u8]) -> Result<FeedMessage, JsonInputFault>
+    ensures ok { IfOk result (λ message. of_text (text_message text.now) ≡ Ok (feed_message_value message)) }
+    ensures well_formed { IfOk result (λ message. IsWellFormedFeed (feed_message_value message)) }
+    ensures err { IfErr result (λ e. e ≢ fault.Memory → of_text (text_message text.now) ≡ Err e) }
+    ensures not_read { IsErrOf result fault.ReadFault → ⊥ }
+{
+    match from_text(alloc, text) {
+        Ok(message) => Ok(message),
+        Err(fault) => Err(JsonInputFault::from(fault)),
     }
 }
 

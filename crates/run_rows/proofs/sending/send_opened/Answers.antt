@@ -1,4 +1,4 @@
-use Rattle.std.proofs.Common.{◌∙◌, ◌++◌, ◌+◌, arith, drop, subst}
+use Rattle.std.proofs.Common.{◌∙◌, ◌++◌, ◌+◌, ap, arith, drop, subst}
 use Rattle.std.specs.List.{flat_map}
 use Rattle.rt_outside.specs.Sink.{AppendsPrefix}
 use Rattle.follow_engine.specs.Deltas.{all_opened, opened_value}
@@ -27,7 +27,7 @@ returns-in_err-send_line-clause-part g c =
     at_err c.from_residual-in_err-send_line.result
     (sends_cut before mid now all held told left
     (subst (λ t. SendsText before mid all (held ++ t)) (opened_from c.args.opened.now c.loop-open.open-index c.open-item.result c.loop-open-test.true c.open-item.is) c.loop-open.invariant.sent)
-    (subst (λ t. AppendsPrefix mid now (held ++ t)) (c.deref.ensures.value ∙ c.in_ok-line.ensures) c.in_err-send_line.ensures.part))
+    (subst (λ t. AppendsPrefix mid now (held ++ t)) (c.deref-in-loop-open.ensures.value ∙ c.in_ok-line.ensures ∙ ap (λ f. standing_text line.Opened (record { finding = f; since = c.open-item.result.since })) c.deref.ensures) c.in_err-send_line.ensures.part))
 
 -- one line more
 pub loop-open-preserved : goal.loop-open-preserved
@@ -42,6 +42,6 @@ loop-open-preserved g c =
     record {
       sent = sends_on before mid now all held told left
           (subst (λ t. SendsText before mid all (held ++ t)) (opened_from c.args.opened.now c.loop-open.open-index c.open-item.result c.loop-open-test.true c.open-item.is) c.loop-open.invariant.sent)
-          c.send_line.new.text.items (subst (λ t. SendsText mid now (held ++ t) c.send_line.new.text.items) (c.deref.ensures.value ∙ c.in_ok-line.ensures) c.in_ok-send_line.ensures.sent);
+          c.send_line.new.text.items (subst (λ t. SendsText mid now (held ++ t) c.send_line.new.text.items) (c.deref-in-loop-open.ensures.value ∙ c.in_ok-line.ensures ∙ ap (λ f. standing_text line.Opened (record { finding = f; since = c.open-item.result.since })) c.deref.ensures) c.in_ok-send_line.ensures.sent);
       later = omega (arith, c.loop-open.invariant.later, c.in_ok-send_line.ensures.later);
     }
