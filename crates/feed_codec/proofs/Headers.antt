@@ -9,13 +9,11 @@ use Rattle.feed_values.specs.Schema.{Needed, Enum}
 use Rattle.feed_values.specs.Messages.{feed_header}
 use Rattle.feed_values.specs.Meaning.{fields, given, in_slot, payload_in, scalar_in, last_of}
 use Rattle.feed_values.specs.Accepted.{absent, missing, incrementalities, header_fields}
-use Rattle.feed_codec.specs.declared.paths.Sought.TheVariants as sought
-use Rattle.feed_codec.specs.Paths.{holds, is_sought}
+use Rattle.feed_codec.specs.Paths.{has_payload}
 use Rattle.feed_codec.proofs.Meanings.{given-append}
 use Rattle.feed_codec.proofs.RequiredSlots.{slot_missing, nothing_else}
 
-pub header_missing : (l : List WireField) → missing feed_header l ≡ cond (holds [] (is_sought (sought.Payload 1)) l) None (Some required.Version)
-unfolding holds
+pub header_missing : (l : List WireField) → missing feed_header l ≡ cond (has_payload 1 l) None (Some required.Version)
 header_missing l = nothing_else (absent (Needed required.Version) (given (in_slot payload_in 1) l)) None refl ∙ slot_missing required.Version (in_slot payload_in 1) l
 
 -- ---- the last of a list, piece by piece

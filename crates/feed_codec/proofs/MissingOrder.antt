@@ -1,11 +1,14 @@
 -- What is missing in an entity is the first required slot in their order that it lacks.
-use Rattle.std.proofs.Common.{◌≡◌, Bool, true, false, not, cond, ◌&&◌, ◌||◌, [], ◌∷◌, Option, Some, None, refl, ◌∙◌}
+use Rattle.std.proofs.Common.{◌≡◌, Bool, true, false, not, cond, ◌&&◌, ◌||◌, List, [], ◌∷◌, Option, Some, None, refl, ◌∙◌}
 use Rattle.std.specs.Option.{option_or}
+use Rattle.rt_wire.specs.Fields.{WireField}
 use Rattle.feed_values.specs.declared.required.Required.{Required}
 use Rattle.feed_values.specs.declared.required.Required.TheVariants.{Id, Trip, Latitude, Longitude, Text}
-use Rattle.feed_codec.specs.declared.paths.Sought.TheVariants.{Fixed32}
-use Rattle.feed_codec.specs.Paths.{holds, is_sought}
-use Rattle.feed_codec.specs.Missing.{is_there, has_blank_translation, MissingIsFirst}
+use Rattle.feed_values.specs.Messages.{entity}
+use Rattle.feed_values.specs.Accepted.{missing}
+use Rattle.feed_codec.specs.Paths.{holds, is_fixed32}
+use Rattle.feed_codec.specs.declared.held_slots.HeldSlots.{HeldSlots}
+use Rattle.feed_codec.specs.Missing.{is_there, has_blank_translation, AreHeld, MissingIsFirst}
 use Rattle.feed_codec.proofs.RequiredSlots.{missing_trip, missing_coordinate, missing_text, missing_entity}
 
 -- the first of five that is lacking, in order
@@ -55,5 +58,9 @@ in_order id update trip place latitude longitude a b c =
 pub missing_is_first : MissingIsFirst
 missing_is_first l =
     missing_entity l ∙ rw (missing_trip l, missing_coordinate l, missing_text l)
-    (in_order (is_there [] 1 l) (is_there [] 3 l) (is_there (3 ∷ []) 1 l) (is_there (4 ∷ []) 2 l) (holds (4 ∷ 2 ∷ []) (is_sought (Fixed32 1)) l) (holds (4 ∷ 2 ∷ []) (is_sought (Fixed32 2)) l)
+    (in_order (is_there [] 1 l) (is_there [] 3 l) (is_there (3 ∷ []) 1 l) (is_there (4 ∷ []) 2 l) (holds (4 ∷ 2 ∷ []) (is_fixed32 1) l) (holds (4 ∷ 2 ∷ []) (is_fixed32 2) l)
     (has_blank_translation 8 l) (has_blank_translation 10 l) (has_blank_translation 11 l))
+
+pub first_lacking : (h : HeldSlots) (l : List WireField) → AreHeld h l → missing entity l
+    ≡ first_of_five (not h.id) (h.update && not h.trip) (h.position.given && not h.position.latitude) (h.position.given && not h.position.longitude) h.blank_text
+first_lacking h l held = missing_is_first l ∙ rw (held.id, held.update, held.trip, held.position, held.latitude, held.longitude, held.blank_text) refl

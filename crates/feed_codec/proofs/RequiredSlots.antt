@@ -10,8 +10,7 @@ use Rattle.feed_values.specs.Schema.{Schema, Presence, Optional, Needed, Bits32}
 use Rattle.feed_values.specs.Messages.{translation, translated_string, trip_descriptor, vehicle_descriptor, stop_time_update, time_range, entity_selector, alert, position, vehicle_position, trip_properties, trip_update, entity}
 use Rattle.feed_values.specs.Meaning.{fields, given, in_slot, payload_in, scalar_in, option_case}
 use Rattle.feed_values.specs.Accepted.{absent, missing, missing_message, first_missing}
-use Rattle.feed_codec.specs.declared.paths.Sought.TheVariants as sought
-use Rattle.feed_codec.specs.Paths.{holds, has_payload, is_sought}
+use Rattle.feed_codec.specs.Paths.{holds, has_payload, is_payload, is_fixed32, is_payload_without}
 
 -- ---- schemas without a required slot inside
 
@@ -116,7 +115,7 @@ trip_case [] = refl
 trip_case (p ∷ ps) = trip_update_missing (flat_map fields (p ∷ ps))
 
 pub missing_trip : (l : List WireField) → missing_message Optional (missing trip_update) (given (in_slot payload_in 3) l)
-    ≡ cond (holds [] (is_sought (sought.Payload 3)) l) (cond (holds (3 ∷ []) (is_sought (sought.Payload 1)) l) None (Some required.Trip)) None
+    ≡ cond (holds [] (is_payload 3) l) (cond (holds (3 ∷ []) (is_payload 1) l) None (Some required.Trip)) None
 unfolding holds
 missing_trip l = trip_case (given (in_slot payload_in 3) l) ∙ ap (λ b. cond b (cond (has_payload 1 (flat_map fields (given (in_slot payload_in 3) l))) None (Some required.Trip)) None) (any_given (in_slot payload_in 3) l)
 
@@ -156,8 +155,8 @@ position_case [] = refl
 position_case (p ∷ ps) = position_missing (flat_map fields (p ∷ ps))
 
 pub missing_coordinate : (l : List WireField) → missing_message Optional (missing vehicle_position) (given (in_slot payload_in 4) l)
-    ≡ cond (holds (4 ∷ []) (is_sought (sought.Payload 2)) l)
-    (cond (holds (4 ∷ 2 ∷ []) (is_sought (sought.Fixed32 1)) l) (cond (holds (4 ∷ 2 ∷ []) (is_sought (sought.Fixed32 2)) l) None (Some required.Longitude)) (Some required.Latitude)) None
+    ≡ cond (holds (4 ∷ []) (is_payload 2) l)
+    (cond (holds (4 ∷ 2 ∷ []) (is_fixed32 1) l) (cond (holds (4 ∷ 2 ∷ []) (is_fixed32 2) l) None (Some required.Longitude)) (Some required.Latitude)) None
 unfolding holds
 missing_coordinate l =
     let vehicle = flat_map fields (given (in_slot payload_in 4) l) in
@@ -171,7 +170,7 @@ translation_missing : (l : List WireField) → missing translation l ≡ cond (h
 translation_missing l = nothing_else (absent (Needed required.Text) (given (in_slot payload_in 1) l)) None refl ∙ slot_missing required.Text (in_slot payload_in 1) l
 
 abbrev lacks_text : WireField → Bool
-lacks_text f = is_sought (sought.PayloadWithout 1 1) f
+lacks_text f = is_payload_without 1 1 f
 
 some_text : (b c : Bool) → option_or (cond b None (Some required.Text)) (cond c (Some required.Text) None) ≡ cond (not b || c) (Some required.Text) None
 some_text true c = refl
@@ -210,15 +209,15 @@ alert_case [] = refl
 alert_case (p ∷ ps) = refl
 
 pub missing_text : (l : List WireField) → missing_message Optional (missing alert) (given (in_slot payload_in 5) l)
-    ≡ cond (holds (5 ∷ 8 ∷ []) (is_sought (sought.PayloadWithout 1 1)) l) (Some required.Text)
-    (cond (holds (5 ∷ 10 ∷ []) (is_sought (sought.PayloadWithout 1 1)) l) (Some required.Text)
-    (cond (holds (5 ∷ 11 ∷ []) (is_sought (sought.PayloadWithout 1 1)) l) (Some required.Text) None))
+    ≡ cond (holds (5 ∷ 8 ∷ []) (is_payload_without 1 1) l) (Some required.Text)
+    (cond (holds (5 ∷ 10 ∷ []) (is_payload_without 1 1) l) (Some required.Text)
+    (cond (holds (5 ∷ 11 ∷ []) (is_payload_without 1 1) l) (Some required.Text) None))
 unfolding holds
 missing_text l = alert_case (given (in_slot payload_in 5) l) ∙ alert_missing (flat_map fields (given (in_slot payload_in 5) l))
 
 -- ---- the entity
 
-pub missing_entity : (l : List WireField) → missing entity l ≡ cond (holds [] (is_sought (sought.Payload 1)) l)
+pub missing_entity : (l : List WireField) → missing entity l ≡ cond (holds [] (is_payload 1) l)
     (option_or (missing_message Optional (missing trip_update) (given (in_slot payload_in 3) l))
     (option_or (missing_message Optional (missing vehicle_position) (given (in_slot payload_in 4) l))
     (missing_message Optional (missing alert) (given (in_slot payload_in 5) l)))) (Some required.Id)

@@ -12,8 +12,7 @@ use Rattle.feed_values.specs.Messages.{feed_header, entity}
 use Rattle.feed_values.specs.Meaning.{fields, whole_fields, given, in_slot, payload_in, option_case}
 use Rattle.feed_values.specs.Accepted.{missing, missing_message, first_missing, header_fields, is_differential}
 use Rattle.feed_codec.specs.declared.refusal.Reason.TheVariants.{MissingField, Differential}
-use Rattle.feed_codec.specs.declared.paths.Sought.TheVariants as sought
-use Rattle.feed_codec.specs.Paths.{holds, is_sought}
+use Rattle.feed_codec.specs.Paths.{holds, has_payload, is_payload}
 use Rattle.feed_codec.specs.Refusal.{refused, shifted, first_in, in_payload, first_fault, entity_fault, part_fault, missing_at, end_fault}
 use Rattle.feed_codec.proofs.ValidTexts.{nothing, neither, unmapped}
 use Rattle.feed_codec.proofs.Headers.{header_missing}
@@ -60,7 +59,7 @@ complete_entities (Err fault ∷ rest) e = refl
 -- ---- the snapshot's end
 
 header_case : (ps : List (List ℕ)) → missing_message (Needed required.Header) (missing feed_header) ps
-    ≡ cond (is_given ps) (cond (holds [] (is_sought (sought.Payload 1)) (flat_map fields ps)) None (Some required.Version)) (Some required.Header)
+    ≡ cond (is_given ps) (cond (has_payload 1 (flat_map fields ps)) None (Some required.Version)) (Some required.Header)
 header_case [] = refl
 header_case (p ∷ ps) = header_missing (flat_map fields (p ∷ ps))
 
@@ -71,8 +70,8 @@ at_end at true false d = refl
 at_end at true true d = refl
 
 pub end_at : (at : ℕ) (bytes : List ℕ) → first_in (in_payload part_fault) (placed_fields bytes) ≡ nothing → end_fault at (fields bytes)
-    ≡ cond (holds [] (is_sought (sought.Payload 1)) (fields bytes))
-    (cond (holds (1 ∷ []) (is_sought (sought.Payload 1)) (fields bytes))
+    ≡ cond (has_payload 1 (fields bytes))
+    (cond (holds (1 ∷ []) (is_payload 1) (fields bytes))
     (cond (is_differential (header_fields (fields bytes))) (Some (refused at Differential)) None)
     (Some (refused at (MissingField required.Version)))) (Some (refused at (MissingField required.Header)))
 unfolding fields holds
@@ -81,6 +80,6 @@ end_at at bytes e =
     let ps = given (in_slot payload_in 1) l in
     let d = is_differential (header_fields l) in
     rw (complete_entities (placed_fields bytes) e, header_case ps)
-    (at_end at (is_given ps) (holds [] (is_sought (sought.Payload 1)) (flat_map fields ps)) d
-    ∙ ap (λ b. cond b (cond (holds [] (is_sought (sought.Payload 1)) (flat_map fields ps)) (cond d (Some (refused at Differential)) None) (Some (refused at (MissingField required.Version)))) (Some (refused at (MissingField required.Header))))
+    (at_end at (is_given ps) (has_payload 1 (flat_map fields ps)) d
+    ∙ ap (λ b. cond b (cond (has_payload 1 (flat_map fields ps)) (cond d (Some (refused at Differential)) None) (Some (refused at (MissingField required.Version)))) (Some (refused at (MissingField required.Header))))
     (any_given (in_slot payload_in 1) l))

@@ -1,12 +1,14 @@
-//! The canonical bytes of a snapshot.
-ghost use Rattle.std.specs.Prelude.{◌≡◌, IfOk};
-ghost use Rattle.feed_values.specs.Messages.{feed_message};
-ghost use Rattle.feed_values.specs.Views.{feed_message_value};
-ghost use Rattle.feed_values.specs.WellFormed.{IsWellFormedFeed};
-ghost use Rattle.feed_values.specs.Canonical.{canonical};
+//! The canonical bytes of a snapshot, and of one entity in it.
+ghost use Rattle.std.specs.Prelude.{◌≡◌, ◌++◌, IfOk, OnOk};
+ghost use Rattle.rt_wire.specs.Fields.{Len};
+ghost use Rattle.feed_values.specs.Messages.{entity, feed_message};
+ghost use Rattle.feed_values.specs.Views.{entity_value, feed_message_value};
+ghost use Rattle.feed_values.specs.WellFormed.{IsWellFormed, IsWellFormedFeed};
+ghost use Rattle.feed_values.specs.Canonical.{canonical, spelled_slot};
 
-use crate::encoding::Encode;
-use feed_values::FeedMessage;
+use crate::encoding::{Encode, Held};
+use crate::numbers::ENTITY;
+use feed_values::{Entity, FeedMessage};
 use std::alloc::{AllocError, Global};
 
 /// The canonical bytes of a snapshot.
@@ -24,4 +26,13 @@ pub fn encode(alloc: Global, message: &FeedMessage) -> Result<Vec<u8>, AllocErro
     let mut bytes = Vec::new(alloc);
     message.put(alloc, &mut bytes)?;
     Ok(bytes)
+}
+
+/// Appends an entity as it stands in the canonical bytes of a snapshot, under its tag and its length. It has to be well formed, as one that was
+/// decoded is. The one error is want of memory. (GTFS Realtime Reference 2.0, "FeedMessage", the field `entity`.)
+pub fn put_entity(alloc: Global, held: &Entity, out: &mut Vec<u8>) -> Result<(), AllocError>
+    requires { IsWellFormed entity (entity_value held.now) }
+    ensures { OnOk result (out.new.items ≡ out.old.items ++ spelled_slot 2 (Len (canonical entity (entity_value held.now)))) }
+{
+    held.put_in(alloc, out, ENTITY)
 }

@@ -23,6 +23,7 @@ mod vehicle_position;
 
 use crate::message::Message;
 use feed_values::{Items, Unknown};
+pub use held::Held;
 use rt_wire::put_field;
 use std::alloc::{AllocError, Global};
 

@@ -8,7 +8,7 @@ ghost use Rattle.feed_values.specs.Views.{natural};
 ghost use Rattle.feed_codec.specs.Refusal.{Answers, header_fault};
 
 use crate::numbers::{HEADER, INCREMENTALITY, VERSION};
-use crate::paths::{Sought, has};
+use crate::paths::has_payload;
 use crate::refusal::{Reason, Refusal, Required};
 use crate::taking::take_enum;
 use rt_wire::{Fields, RawField, RawValue};
@@ -25,7 +25,7 @@ pub const DIFFERENTIAL: u32 = 1;
 pub fn check_header(parts: &[u8], end: usize) -> Result<(), Refusal>
     ensures { Answers result (header_fault end (fields parts.now)) }
 {
-    if !has(parts, &[], Sought::Payload(VERSION)) {
+    if !has_payload(parts, VERSION) {
         return Err(Refusal::new(end, Reason::MissingField(Required::Version)));
     }
     if last_incrementality(parts) == Some(DIFFERENTIAL) {

@@ -32,7 +32,8 @@
 //! - `message`: any message, field by field
 //! - `checking`: the first fault of any message, but for required slots
 //! - `descriptors`, `properties`, `translation`, `alert`, `vehicle_position`, `trip_update`, `feed`: the kinds of message
-//! - `missing`: the required slots of an entity
+//! - `held_slots`: what is there of the required slots of an entity
+//! - `missing`: the first of them that it lacks
 //! - `entity`: one entity, or one payload of the header, by itself
 //! - `header`: what is asked of the header at the snapshot's end
 //! - `snapshot`: a whole snapshot, checked and decoded
@@ -55,6 +56,7 @@ mod encoding_laws;
 mod entity;
 mod feed;
 mod header;
+mod held_slots;
 mod laws;
 mod message;
 mod missing;
@@ -72,7 +74,7 @@ mod trip_update;
 mod unknown;
 mod vehicle_position;
 
-pub use canonical::encode;
+pub use canonical::{encode, put_entity};
 pub use checking::reason_of;
 pub use codec_fault::CodecFault;
 pub use encoding_laws::{

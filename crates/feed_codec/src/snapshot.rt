@@ -15,7 +15,7 @@ use crate::entity::check_entity_payload;
 use crate::header::{DIFFERENTIAL, snapshot_incrementality};
 use crate::message::message_of;
 use crate::numbers::{ENTITY, HEADER, VERSION};
-use crate::paths::{Sought, has};
+use crate::paths::{has_inner_payload, has_payload};
 use crate::refusal::{Reason, Refusal, Required};
 use crate::stopped::Stopped;
 use feed_values::{FeedHeader, FeedMessage};
@@ -44,10 +44,10 @@ fn check_end(bytes: &[u8]) -> Result<(), Refusal>
     ensures { Answers result (end_fault (length bytes.now) (fields bytes.now)) }
 {
     let at = bytes.len();
-    if !has(bytes, &[], Sought::Payload(HEADER)) {
+    if !has_payload(bytes, HEADER) {
         return Err(Refusal::new(at, Reason::MissingField(Required::Header)));
     }
-    if !has(bytes, &[HEADER], Sought::Payload(VERSION)) {
+    if !has_inner_payload(bytes, HEADER, VERSION) {
         return Err(Refusal::new(at, Reason::MissingField(Required::Version)));
     }
     if snapshot_incrementality(bytes) == Some(DIFFERENTIAL) {

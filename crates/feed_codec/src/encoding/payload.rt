@@ -13,6 +13,9 @@ use feed_values::{Apart, Blank, Boxed, Items};
 use rt_wire::{RawValue, put_field};
 use std::alloc::{AllocError, Global};
 
+// How many bytes a message in another is given at first: what most of them take.
+const ROOM: usize = 64;
+
 /// A message, one that stands apart or one in a box.
 pub trait Payload {
     ghost schema: { Schema };
@@ -64,7 +67,7 @@ impl<P: Payload> Held for P {
     ghost spelled = { λ n p. spelled_slot n (Len (canonical P.schema (P.value p))) };
 
     fn put_in(&self, alloc: Global, out: &mut Vec<u8>, number: u32) -> Result<(), AllocError> {
-        let mut inner = Vec::new(alloc);
+        let mut inner = Vec::with_capacity(alloc, ROOM)?;
         self.put_payload(alloc, &mut inner)?;
         put_field(out, number, RawValue::Len(inner.as_slice()))
     }
