@@ -1,15 +1,13 @@
 -- The union, feed by feed and entity by entity: its entities and its bytes.
-use Rattle.std.proofs.Common.{◌≡◌, ℕ, suc, ◌+◌, ◌≤◌, ◌<◌, ℤ, List, [], ◌∷◌, ◌++◌, map, length, take, drop, get_or, slice_get, None, Some, refl, subst, ap, sym, ◌∙◌, arith, append-nil, append_assoc, length-append}
+use Rattle.std.proofs.Common.{◌≡◌, ℕ, suc, ◌+◌, ◌≤◌, ◌<◌, ℤ, List, [], ◌∷◌, ◌++◌, map, length, take, drop, get_or, slice_get, Some, refl, ap, sym, ◌∙◌, arith, append-nil, append_assoc, length-append}
 use Prim.Native.String.{String}
 use Rattle.std.specs.Prelude.{Result, Ok, Err, OnOk, is_ok, if◌then◌else◌}
 use Rattle.std.specs.declared.option.Option.{Option}
 use Rattle.std.specs.List.{flat_map}
 use Rattle.std.proofs.lemmas.Grind.{flat_map-append}
-use Rattle.std.proofs.lemmas.List.{drop_at, map_more, map-append, length-map, length-take-le, take_all, take-append-drop}
+use Rattle.std.proofs.lemmas.List.{map_more, map-append, length-map, length-take-le, take_all, take-append-drop}
 use Rattle.std.proofs.lemmas.Option.{get_or_from_slice_get}
 use Rattle.rt_wire.specs.Fields.{Len}
-use Rattle.rt_wire.specs.Varint.{minimal, minimal_for}
-use Rattle.rt_wire.specs.Writing.{spell}
 use Rattle.feed_values.specs.Schema as schema
 use Rattle.feed_values.specs.Schema.{Schema, Value}
 use Rattle.feed_values.specs.Accepted.{snapshot_limit}
@@ -94,21 +92,6 @@ union_more stamp done es =
     ∙ append_assoc (union_bytes stamp []) (entities_spelled done) (entities_spelled es)
     ∙ ap (λ xs. union_bytes stamp [] ++ xs) (sym (flat_map-append entity_spelled done es))
     ∙ sym (behind_header stamp (done ++ es))
-
--- ---- one entity
-header_long : length (union_bytes None []) ≡ 9
-unfolding spell minimal minimal_for
-header_long = refl
-
-pub header_within : (e : Value entity) (bytes : List ℕ) → bytes ≡ union_bytes None (e ∷ []) → 9 ≤ length bytes
-header_within e bytes is =
-    let long : length bytes ≡ length (union_bytes None []) + length (entities_spelled (e ∷ [])) =
-    ap length (is ∙ behind_header None (e ∷ [])) ∙ length-append (union_bytes None []) (entities_spelled (e ∷ [])) in
-    omega (arith, long, header_long)
-
--- what stands behind the header of a union that has it alone
-pub alone : (e : Value entity) → drop 9 (union_bytes None (e ∷ [])) ≡ entity_spelled e
-alone e = ap (drop 9) (behind_header None (e ∷ [])) ∙ drop_at (union_bytes None []) (entities_spelled (e ∷ [])) 9 header_long ∙ append-nil (entity_spelled e)
 
 -- ---- the entities of a kept snapshot
 module _ (number : ℕ) (kept : List ℕ) where

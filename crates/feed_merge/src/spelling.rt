@@ -1,29 +1,24 @@
 //! The entities of a kept snapshot, as they are written in the union.
-ghost use Rattle.std.specs.Prelude.{◌≡◌, ◌++◌, ◌∷◌, [], None, Err, IfOk, OnOk, IfErr, map, length, ◌<◌, ◌≤◌};
+ghost use Rattle.std.specs.Prelude.{◌≡◌, ◌++◌, Err, IfOk, OnOk, IfErr, map, length, ◌<◌, ◌≤◌};
 ghost use Rattle.feed_values.specs.Accepted.{snapshot_limit};
-ghost use Rattle.feed_values.specs.Canonical.{canonical};
-ghost use Rattle.feed_values.specs.Messages.{entity, feed_message};
+ghost use Rattle.feed_values.specs.Messages.{entity};
 ghost use Rattle.feed_values.specs.Snapshot.{entity_of, snapshot_value};
 ghost use Rattle.feed_values.specs.Views.{entity_value};
 ghost use Rattle.feed_values.specs.WellFormed.{IsWellFormed};
 ghost use Rattle.feed_codec.specs.Refusal.{entity_fault};
 ghost use Rattle.feed_merge.specs.Spelled.{entities_spelled, entity_spelled};
-ghost use Rattle.feed_merge.specs.Union.{entities_in, headed, prefixed, renamed};
+ghost use Rattle.feed_merge.specs.Union.{entities_in, prefixed, renamed};
 ghost use Rattle.feed_merge.specs.declared.merge_fault.MergeFault.TheVariants.{TooLarge};
 
 use crate::merge_fault::MergeFault;
-use crate::merging::snapshot_of;
 use crate::renaming::{prefix, rename};
-use feed_codec::{SNAPSHOT_LIMIT, decode_entity, encode};
+use feed_codec::{SNAPSHOT_LIMIT, decode_entity};
 use feed_stream::Kept;
-use feed_values::{Entity, Items};
+use feed_values::Entity;
 use rt_outside::Steps;
 use std::alloc::{AllocError, Global};
 use std::marker::Brand;
 use std::sync::ledger::{Blank, Ledger};
-
-// How many bytes stand before the entities of a union without a timestamp: those of its version and of FULL_DATASET.
-const HEADER: usize = 9;
 
 /// Whether a snapshot may have so many bytes.
 pub fn within_limit(bytes: &[u8]) -> Result<(), MergeFault>
@@ -48,17 +43,6 @@ fn decoded<L: Ledger>(alloc: Global, payload: &[u8], blank: Blank) -> Result<Ent
     decode_entity(alloc, payload, &mut Steps::<L>::new(blank))
 }
 
-// The bytes of a union without a timestamp that has one entity.
-fn bytes_of_one(alloc: Global, held: Entity) -> Result<Vec<u8>, AllocError>
-    requires { IsWellFormed entity (entity_value held) }
-    ensures { IfOk result (λ bytes. bytes.items ≡ canonical feed_message (headed None (entity_value held ∷ []))) }
-{
-    let mut entities = Items::new(alloc);
-    entities.push(held)?;
-    let message = snapshot_of(alloc, None, entities)?;
-    encode(alloc, &message)
-}
-
 // Appends an entity as it is written in a snapshot, with this before its id.
 fn put_entity(
     alloc: Global,
@@ -70,8 +54,7 @@ fn put_entity(
     ensures { OnOk result (bytes.new.items ≡ bytes.old.items ++ entity_spelled (renamed prefix.now (entity_value held))) }
 {
     rename(alloc, prefix, &mut held)?;
-    let more = bytes_of_one(alloc, held)?;
-    bytes.extend_from_slice(&more[HEADER..])
+    feed_codec::put_entity(alloc, &held, bytes)
 }
 
 /// Appends the entities of the feed of this number, each under its id in the union, as long as all are what a snapshot may have.
