@@ -22,11 +22,12 @@ use crate::sending::send;
 use feed_codec::{decode_entity, decode_header};
 use feed_stream::Kept;
 use feed_values::{Entity, FeedHeader};
+use quiet_vehicles::marks_of;
 use rt_outside::{Sink, Steps, put_all};
 use rt_report::Lines;
 use rule_table::{EntityKey, Mark, PairView};
 use run_base::Fault;
-use snapshot_keys::{EntityPlace, HeaderRules, Setting, finding_at, marks_at, places, rows_of};
+use snapshot_keys::{EntityPlace, HeaderRules, Setting, finding_at, places, rows_of};
 use std::alloc::{AllocError, Global};
 use std::sync::ledger::Ledger;
 use timetable::Timetable;
@@ -97,7 +98,7 @@ fn send_entity<P: PairView, S: Sink, D: Ledger, T: Ledger>(
     ensures most { RoseAtMost (entities_work 1) (counters decodes.old tests.old) (counters decodes.new tests.new) }
 {
     let entity = decode_entity(alloc, kept.entity(place), decodes)?;
-    let marks = marks_at(alloc, setting, key, &entity, tests)?;
+    let marks = marks_of(alloc, setting, key, &entity, tests)?;
     send_marked(alloc, setting, key, &entity, &marks, lines, out)
 }
 
