@@ -1,9 +1,6 @@
-pub mod Emptied
 pub mod Floats
-pub mod FromText
 pub mod Groups
 pub mod Holding
-pub mod ItemsRead
 pub mod Lists
 pub mod Members
 pub mod Named

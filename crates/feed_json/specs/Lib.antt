@@ -1,6 +1,5 @@
 pub mod Faults
 pub mod Form
-pub mod FromText
 pub mod Holds
 pub mod Pieces
 pub mod Reads

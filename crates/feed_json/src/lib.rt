@@ -10,8 +10,7 @@
 //!
 //! - `to_json` gives the form of a message. It holds no float, so its text is exact. `to_text` gives that text, and makes it
 //!   piece by piece, as anyone can by `push_entity`, `push_header`, `push_unknown` and `push_end` (`specs/Pieces.antt`).
-//! - `from_text` gives the message that a text says, which is well formed, or the first fault of the text's tree with its path. No more than one entity has
-//!   a whole tree at a time (`specs/FromText.antt`). `from_json` does the same of a tree.
+//! - `from_json` gives the message that a tree says, which is well formed, or the first fault of the tree with its path.
 //!   A tree is walked in a fixed order: at an object its keys in byte order, then its fields in the order of the table of
 //!   messages, and last its unknown fields.
 //!
@@ -32,7 +31,7 @@
 //! - `later`: fields of later slots among unknown ones, moved to their slots
 //! - `descriptors`, `translation`, `alert`, `vehicle_position`, `properties`, `trip_update`, `feed`: the kinds of message
 //! - `snapshot`: a whole snapshot as JSON, and from it
-//! - `text`: the text of a form; `text_reading`: a snapshot from such a text, entity by entity, and `text_fault`: why a text is none
+//! - `text`: the text of a form
 //! - `laws`: that nothing is lost, and what a first fault is
 #![tactic(auto)]
 
@@ -48,8 +47,6 @@ mod properties;
 mod reading;
 mod snapshot;
 mod text;
-mod text_fault;
-mod text_reading;
 mod three;
 mod translation;
 mod trip_update;
@@ -59,7 +56,7 @@ mod writing;
 
 pub use json_fault::JsonFault;
 pub use laws::{fault_is_first, form_reads_back, moved_as_taken, no_fault_is_found};
+pub use message::{Form, array_from, item_from, needed_message, unknown_key};
 pub use snapshot::{from_json, to_json};
 pub use text::{push_end, push_entity, push_header, push_unknown, to_text};
-pub use text_fault::TextFault;
-pub use text_reading::from_text;
+pub use unknown::{UnknownItems, unknown_fields};

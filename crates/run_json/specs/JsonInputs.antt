@@ -4,9 +4,9 @@ use Rattle.feed_values.specs.Schema.{Value}
 use Rattle.feed_values.specs.Messages.{feed_message}
 use Rattle.feed_json.specs.declared.json_fault.JsonFault.{JsonFault}
 use Rattle.feed_json.specs.declared.json_fault.JsonFault.TheVariants as json
-use Rattle.feed_json.specs.declared.text_fault.TextFault.{TextFault}
-use Rattle.feed_json.specs.declared.text_fault.TextFault.TheVariants as text
-use Rattle.feed_json.specs.FromText.{text_message}
+use Rattle.json_entities.specs.declared.text_fault.TextFault.{TextFault}
+use Rattle.json_entities.specs.declared.text_fault.TextFault.TheVariants as text
+use Rattle.json_entities.specs.FromText.{text_message}
 use Rattle.run_json.specs.declared.json_input_fault.JsonInputFault.{JsonInputFault}
 use Rattle.run_json.specs.declared.json_input_fault.JsonInputFault.TheVariants.{MissingFile, TooLarge, NotJson, WrongKind, UnknownKey, OutOfRange, MissingKey, ReadFault, Memory}
 use Rattle.run_base.specs.declared.input_fault.InputFault.{InputFault}

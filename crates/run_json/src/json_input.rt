@@ -5,14 +5,14 @@ ghost use Rattle.rt_outside.specs.Causes.{Rose};
 ghost use Rattle.rt_outside.specs.Store.{contents_told};
 ghost use Rattle.feed_values.specs.Views.{feed_message_value};
 ghost use Rattle.feed_values.specs.WellFormed.{IsWellFormedFeed};
-ghost use Rattle.feed_json.specs.FromText.{text_message};
+ghost use Rattle.json_entities.specs.FromText.{text_message};
 ghost use Rattle.run_base.specs.Faults.{refused_text};
 ghost use Rattle.run_json.specs.JsonInputs.{TellsJsonFault, at_path, input_message, input_text, of_text};
 ghost use Rattle.run_json.specs.declared.json_input_fault.JsonInputFault.TheVariants as fault;
 
 use crate::json_input_fault::JsonInputFault;
-use feed_json::from_text;
 use feed_values::FeedMessage;
+use json_entities::from_text;
 use rt_outside::{Files, ReadEnd, read_whole};
 use run_base::{InputFault, refused_text};
 use std::alloc::{AllocError, Global};

@@ -3,8 +3,9 @@ ghost use Rattle.std.specs.Prelude.{◌≡◌};
 ghost use Rattle.run_json.specs.declared.json_input_fault.JsonInputFault.TheVariants.{Memory};
 ghost use Rattle.run_json.specs.JsonInputs.{input_fault, text_fault};
 
-use feed_json::{JsonFault, TextFault};
+use feed_json::JsonFault;
 use feed_values::Text;
+use json_entities::TextFault;
 use std::alloc::AllocError;
 
 /// Why the message of a JSON file isn't had. A path is that of the first fault of the file's tree.

@@ -1,6 +1,6 @@
 -- An object's members without what stands at the key of entities are its members but for that.
-use Rattle.std.proofs.Common.{◌≡◌, ℕ, List, [], ◌∷◌, Option, Some, None, Bool, true, false, refl, sym, ap, subst, ◌∙◌, true≢false, codes}
-use Rattle.std.specs.Prelude.{⊤, option_and_then, unwrap_or, bytes_eq, Result, Ok, Err, if◌then◌else◌}
+use Rattle.std.proofs.Common.{◌≡◌, ℕ, List, Option, Some, None, Bool, true, false, refl, sym, ap, subst, ◌∙◌, true≢false, codes}
+use Rattle.std.specs.Prelude.{⊤, option_and_then, if◌then◌else◌}
 use Rattle.std.specs.Option.{option_map}
 use Rattle.std.specs.Ordering.{nat_cmp, match_ordering, is_eq}
 use Rattle.std.specs.declared.cmp.Ordering.{Ordering}
@@ -9,12 +9,13 @@ use Rattle.std.specs.Cmp.Lexicographic.{slice_cmp}
 use Rattle.std.proofs.lemmas.Map.Text.{is_eq-slice_cmp}
 use Rattle.std.proofs.lemmas.Slice.Eq.{bytes_eq-Decides}
 use Rattle.json.specs.Json as json
-use Rattle.serde_json.specs.Data.{Data, null, Items, no_items, item, Members, no_members, member, put}
+use Rattle.serde_json.specs.Data.{Data, null, Items, item, Members, no_members, member, put}
 use Rattle.serde_json.specs.Find.{get_member}
 use Rattle.serde_json.specs.Read.{of_json, of_items, of_members}
 use Rattle.serde_json.proofs.Views.{get_member-put, get_member-put_other}
-use Rattle.feed_json.specs.FromText.{Entities, emptied, entities_of, entity_values, is_entity, last_said}
-use Rattle.feed_json.specs.Unform.{first_unknown}
+use Rattle.json_entities.specs.Parts.{Entities, emptied, entity_values, is_entity, last_said}
+use Rattle.feed_values.specs.Messages.{entity}
+use Rattle.feed_json.specs.Unform.{array_at, first_unknown, unform}
 
 -- ---- members that differ at that key alone
 abbrev pub Alike : Members → Members → Type 0
@@ -61,7 +62,11 @@ unknown_alike known (member l x ms) (member q y ns) a =
     subst (λ r. first_unknown known (member l x ms) ≡ first_unknown known (member r y ns)) a.0 (ap (λ rest. if known l then rest else Some l) (unknown_alike known ms ns a.1.1))
 
 -- ---- members read one after the other
--- what is said by what stands at the key of entities
+-- the entities that stand at the key of a snapshot's
+abbrev entities_of : Option Data → Entities
+entities_of o = array_at (codes "entity") (unform entity) o
+
+-- what is said by what stands at that key
 abbrev pub said_at : Members → Entities
 said_at ms = entities_of (get_member (codes "entity") ms)
 

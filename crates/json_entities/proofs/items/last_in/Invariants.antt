@@ -3,9 +3,9 @@ use Rattle.std.specs.Option.{option_map}
 use Rattle.json.specs.Tree.{ItemsHaveNumbers, items_depth}
 use Rattle.json.specs.Value.{items_view}
 use Rattle.serde_json.specs.Read.{max_depth, of_items}
-use Rattle.feed_json.specs.FromText.{AllRead, array_said, as_said, last_of, last_said}
+use Rattle.json_entities.specs.Parts.{AllRead, array_said, as_said, last_of, last_said}
 use Rattle.feed_json.specs.Holds.{Holds}
-use Rattle.feed_json.proofs.text_reading.last_in.Given as goal
+use Rattle.json_entities.proofs.items.last_in.Given as goal
 
 -- what the last value said, and what is left of the values
 abbrev pub invariant-loop-value : goal.invariant-loop-value

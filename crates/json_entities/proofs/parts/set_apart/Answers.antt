@@ -1,9 +1,9 @@
-use Rattle.std.proofs.Common.{◌≡◌, ◌++◌, ◌∷◌, [], List, true, false, refl, sym, ap, ◌∙◌}
+use Rattle.std.proofs.Common.{true, false, refl, sym, ap, ◌∙◌}
 use Rattle.json.specs.Value.{members_view}
 use Rattle.json.specs.declared.value.Value.{Null}
-use Rattle.feed_json.specs.FromText.{emptied, entity_values}
-use Rattle.feed_json.proofs.ItemsRead.{all_items, all_members, items_before, members_before, none_left, null_view, others_after, values_after, values_stay}
-use Rattle.feed_json.proofs.text_reading.set_apart.Goals as goal
+use Rattle.json_entities.specs.Parts.{emptied, entity_values}
+use Rattle.json_entities.proofs.ItemsRead.{all_items, all_members, items_before, members_before, none_left, null_view, others_after, values_after, values_stay}
+use Rattle.json_entities.proofs.parts.set_apart.Goals as goal
 
 pub loop-key-init : goal.loop-key-init
 loop-key-init c =

@@ -1,46 +1,26 @@
--- The snapshot that a text says. (RFC 8259; the form is this profile's.)
-use Rattle.std.specs.Prelude.{ℕ, List, [], ◌∷◌, ◌++◌, ⊤, map, length, Bool, Option, Some, None, Result, Ok, Err, codes, bytes_eq, unwrap_or, option_and_then, if◌then◌else◌}
+-- What the parts of a text say, of which entities are read one after the other.
+use Rattle.std.specs.Prelude.{ℕ, List, [], ◌∷◌, ◌++◌, ⊤, map, length, Bool, Option, Some, None, Result, Ok, Err, codes, bytes_eq, if◌then◌else◌}
 use Rattle.std.specs.Option.{option_map}
 use Rattle.std.specs.List.{AllByRecursion}
-use Rattle.std.specs.Str.{is_utf8}
 use Rattle.json.specs.Json as json
-use Rattle.serde_json.specs.Data.{Data, Items, no_items, item, Members}
+use Rattle.serde_json.specs.Data.{Data, Items, no_items, item}
 use Rattle.serde_json.specs.Find.{get, as_object}
-use Rattle.serde_json.specs.Read.{read, of_json, of_items}
+use Rattle.serde_json.specs.Read.{of_json, of_items}
 use Rattle.feed_values.specs.Schema.{Schema, Value}
 use Rattle.feed_values.specs.Messages.{feed_message, feed_header, entity}
 use Rattle.feed_json.specs.declared.json_fault.JsonFault.{JsonFault}
 use Rattle.feed_json.specs.declared.json_fault.JsonFault.TheVariants.{UnknownKey}
-use Rattle.feed_json.specs.declared.text_fault.TextFault.{TextFault}
-use Rattle.feed_json.specs.declared.text_fault.TextFault.TheVariants.{NotJson, Message}
 use Rattle.feed_json.specs.Faults.{item_key, under, unless, paired, ◌>>=◌}
 use Rattle.feed_json.specs.Unform.{of_kind, first_unknown, is_key, needed_at, array_at, each_of, unknown_of, unform}
-
--- the tree of bytes, which are UTF-8 and JSON
-abbrev pub tree_of : List ℕ → Option Data
-tree_of bytes = if is_utf8 bytes then read bytes else None
-
--- what a tree says as a snapshot, as an answer to its text
-abbrev pub answered : {A : Type 0} → Result A JsonFault → Result A TextFault
-answered (Ok a) = Ok a
-answered (Err fault) = Err (Message fault)
-
-abbrev pub said_by : Option Data → Result (Value feed_message) TextFault
-said_by None = Err NotJson
-said_by (Some d) = answered (unform feed_message d)
-
--- the snapshot that bytes say as the text of its form
-abbrev pub text_message : List ℕ → Result (Value feed_message) TextFault
-text_message bytes = said_by (tree_of bytes)
+use Rattle.json_entities.specs.declared.said.Said.{Said}
+use Rattle.json_entities.specs.declared.said.Said.TheVariants.{Messages, Fault}
+use Rattle.json_entities.specs.declared.text_fault.TextFault.{TextFault}
+use Rattle.json_entities.specs.FromText.{said_by}
 
 -- ---- entities by themselves
 -- entities, or the first fault of them
 abbrev pub Entities : Type 0
 Entities = Result (List (Value entity)) JsonFault
-
--- the entities that stand at the key of a snapshot's
-abbrev pub entities_of : Option Data → Entities
-entities_of o = array_at (codes "entity") (unform entity) o
 
 -- the snapshot of an object in which these are the entities
 abbrev pub message_with : Entities → Data → Result (Value feed_message) JsonFault
@@ -48,14 +28,14 @@ message_with entities d = of_kind (as_object d) >>= λ ms. unless (option_map Un
     (paired (needed_at (codes "header") (unform feed_header) (get (codes "header") d)) (paired entities (array_at (codes "unknown") (unknown_of feed_message) (get (codes "unknown") d))))
 
 -- what code holds, as what is said
-abbrev pub as_said : {T A : Type 0} → (T → A) → Result (List T) JsonFault → Result (List A) JsonFault
-as_said value (Ok list) = Ok (map value list)
-as_said value (Err fault) = Err fault
+abbrev pub as_said : {T A : Type 0} → (T → A) → Said T → Result (List A) JsonFault
+as_said value (Messages list) = Ok (map value list)
+as_said value (Fault fault) = Err fault
 
--- each value that was read is one that holds something
-abbrev pub AllRead : {T A : Type 0} → (T → A) → (A → Type 0) → Result (List T) JsonFault → Type 0
-AllRead value P (Ok list) = AllByRecursion P (map value list)
-AllRead value P (Err fault) = ⊤
+-- each message that was read is one of which something holds
+abbrev pub AllRead : {T A : Type 0} → (T → A) → (A → Type 0) → Said T → Type 0
+AllRead value P (Messages list) = AllByRecursion P (map value list)
+AllRead value P (Fault fault) = ⊤
 
 -- ---- what a text has at the key of entities
 abbrev pub is_entity : List ℕ → Bool
@@ -92,14 +72,9 @@ last_of key s js = option_map (last_said (array_said key s) (Ok [])) (of_items j
 abbrev pub and_item : (key : List ℕ) (s : Schema) → List (Value s) → Data → Result (List (Value s)) JsonFault
 and_item key s before d = under (item_key key (length before)) (unform s d) >>= λ v. Ok (before ++ v ∷ [])
 
--- messages before others, or the fault of those
-abbrev pub after_items : {A : Type 0} → List A → Result (List A) JsonFault → Result (List A) JsonFault
-after_items done (Ok more) = Ok (done ++ more)
-after_items done (Err fault) = Err fault
-
 -- what all items say, of which some were read or one had a fault, and these are left
 abbrev pub left_said : (key : List ℕ) (s : Schema) → List (Value s) → Option JsonFault → Items → Result (List (Value s)) JsonFault
-left_said key s done None ds = after_items done (each_of key (unform s) (length done) ds)
+left_said key s done None ds = each_of key (unform s) (length done) ds >>= λ more. Ok (done ++ more)
 left_said key s done (Some fault) ds = Err fault
 
 -- what an array's items say at a key, if their numbers are numbers

@@ -1,6 +1,6 @@
 -- A text's tree, its parts, and what they say.
-use Rattle.std.proofs.Common.{◌≡◌, ℕ, ◌≤◌, max, List, [], ◌∷◌, ◌++◌, Option, Some, None, Bool, true, false, refl, sym, ap, ◌∙◌, arith, append-nil, true≢false, codes}
-use Rattle.std.specs.Prelude.{◌≢◌, IfErr, IfOk, is_ok, option_and_then, unwrap_or, is_some, Result, Ok, Err, if◌then◌else◌}
+use Rattle.std.proofs.Common.{◌≡◌, ℕ, ◌≤◌, max, List, [], ◌∷◌, Option, Some, None, Bool, true, false, refl, sym, ap, ◌∙◌, arith, append-nil, true≢false, codes}
+use Rattle.std.specs.Prelude.{◌≢◌, IfErr, IfOk, is_ok, option_and_then, is_some, Result, Ok, Err, if◌then◌else◌}
 use Rattle.std.specs.Option.{option_map}
 use Rattle.std.specs.Str.{IsUtf8, is_utf8}
 use Rattle.std.proofs.lemmas.Str.{IsUtf8-from_is_utf8, is_utf8-from_IsUtf8}
@@ -17,12 +17,13 @@ use Rattle.feed_values.specs.Schema.{Value}
 use Rattle.feed_values.specs.Messages.{feed_message, feed_header, entity}
 use Rattle.feed_json.specs.declared.json_fault.JsonFault.{JsonFault}
 use Rattle.feed_json.specs.declared.json_fault.JsonFault.TheVariants.{UnknownKey, Memory}
-use Rattle.feed_json.specs.declared.text_fault.TextFault.{TextFault}
-use Rattle.feed_json.specs.declared.text_fault.TextFault.TheVariants.{NotJson, Message}
+use Rattle.json_entities.specs.declared.text_fault.TextFault.{TextFault}
+use Rattle.json_entities.specs.declared.text_fault.TextFault.TheVariants.{NotJson, Message}
 use Rattle.feed_json.specs.Faults.{unless, paired}
-use Rattle.feed_json.specs.FromText.{Entities, answered, said_by, json_message, text_message, message_with, entities_of, emptied, entity_values, is_entity, last_said, last_of}
+use Rattle.json_entities.specs.FromText.{answered, said_by, text_message}
+use Rattle.json_entities.specs.Parts.{Entities, json_message, message_with, emptied, entity_values, is_entity, last_said, last_of}
 use Rattle.feed_json.specs.Unform.{first_unknown, is_key, needed_at, array_at, unknown_of, unform}
-use Rattle.feed_json.proofs.Emptied.{Alike, IsReadAs, said_at, say, get_alike, unknown_alike, members_read}
+use Rattle.json_entities.proofs.Emptied.{Alike, IsReadAs, said_at, say, get_alike, unknown_alike, members_read}
 
 none_some : {A : Type 0} {x : A} → None ≡ Some x → ⊥
 none_some h = true≢false (sym (ap is_some h))

@@ -1,19 +1,18 @@
 -- Items of a text's arrays, read one after the other.
-use Rattle.std.proofs.Common.{rules, ◌≡◌, ℕ, ◌+◌, ◌≤◌, max, List, [], ◌∷◌, ◌++◌, length, map, Option, Some, None, Result, Ok, Err, Bool, true, false, refl, sym, ap, ◌∙◌, arith, append_assoc, append-nil, length-append, true≢false, Bor, Vec}
+use Rattle.std.proofs.Common.{rules, ◌≡◌, ℕ, ◌+◌, List, [], ◌∷◌, ◌++◌, length, Option, Some, None, Result, Ok, Err, Bool, true, false, refl, sym, ap, ◌∙◌, arith, append_assoc, length-append, true≢false, Bor, Vec}
 use Rattle.std.specs.Prelude.{is_ok, option_and_then, if◌then◌else◌}
 use Rattle.std.specs.Option.{option_map}
 use Rattle.json.specs.Json as json
 use Rattle.json.specs.Value.{value_view, items_view, members_view}
 use Rattle.json.specs.declared.value.Value.{Value as Lean, Null, Array, Object, the_lemmas}
 use Rattle.json.proofs.Trees.{view-Array, view-Object}
-use Rattle.serde_json.specs.Data.{Data, array, Items, no_items, item}
+use Rattle.serde_json.specs.Data.{Data, array, Items, item}
 use Rattle.serde_json.specs.Read.{of_json, of_items}
 use Rattle.feed_values.specs.Schema.{Schema, Value}
 use Rattle.feed_json.specs.declared.json_fault.JsonFault.{JsonFault}
 use Rattle.feed_json.specs.Faults.{item_key, under, ◌>>=◌}
-use Rattle.feed_json.specs.FromText.{and_item, array_said, emptied, entity_values, is_entity, items_said, last_said, left_said, value_said}
+use Rattle.json_entities.specs.Parts.{and_item, array_said, emptied, entity_values, is_entity, items_said, last_said, left_said, value_said}
 use Rattle.feed_json.specs.Unform.{each_of, unform}
-use Rattle.feed_json.specs.FromText.{after_items}
 
 pub none_left : {A : Type 0} (xs : List A) → length xs ≡ 0 → xs ≡ []
 none_left [] h = refl
@@ -72,7 +71,11 @@ pub values_stay : {A : Type 0} (vs : List (Lean A)) (key : Bor (List ℕ)) (v : 
 values_stay vs key v rest all is before = ap (λ x. items_before vs (if x then json.item (value_view v) (entity_values (members_view rest)) else entity_values (members_view rest))) (sym is) ∙ before
 
 -- ---- one item more
-joined : {A : Type 0} (done : List A) (v : A) (more : Result (List A) JsonFault) → after_items done (more >>= λ vs. Ok (v ∷ vs)) ≡ after_items (done ++ v ∷ []) more
+-- what is left, behind what was read
+abbrev behind : {A : Type 0} → List A → Result (List A) JsonFault → Result (List A) JsonFault
+behind done left = left >>= λ more. Ok (done ++ more)
+
+joined : {A : Type 0} (done : List A) (v : A) (more : Result (List A) JsonFault) → behind done (more >>= λ vs. Ok (v ∷ vs)) ≡ behind (done ++ v ∷ []) more
 joined done v (Ok vs) = ap Ok (sym (append_assoc done (v ∷ []) vs))
 joined done v (Err fault) = refl
 
@@ -86,14 +89,14 @@ not_both : {A : Type 0} {x : A} {e : JsonFault} → Err e ≡ Ok x → ⊥
 not_both h = true≢false (sym (ap is_ok h))
 
 module _ (key : List ℕ) (s : Schema) (done : List (Value s)) (ds : Items) where
-  next_is : (r : Result (Value s) JsonFault) (more : List (Value s)) → (r >>= λ v. Ok (done ++ v ∷ [])) ≡ Ok more → after_items done (r >>= λ v. each_of key (unform s) (length done + 1) ds >>= λ vs. Ok (v ∷ vs)) ≡ after_items more (each_of key (unform s) (length more) ds)
+  next_is : (r : Result (Value s) JsonFault) (more : List (Value s)) → (r >>= λ v. Ok (done ++ v ∷ [])) ≡ Ok more → behind done (r >>= λ v. each_of key (unform s) (length done + 1) ds >>= λ vs. Ok (v ∷ vs)) ≡ behind more (each_of key (unform s) (length more) ds)
   next_is (Ok v) more is =
       joined done v (each_of key (unform s) (length done + 1) ds)
-      ∙ ap (λ n. after_items (done ++ v ∷ []) (each_of key (unform s) n ds)) (sym (length-append done (v ∷ [])))
-      ∙ ap (λ vs. after_items vs (each_of key (unform s) (length vs) ds)) (ok_is is)
+      ∙ ap (λ n. behind (done ++ v ∷ []) (each_of key (unform s) n ds)) (sym (length-append done (v ∷ [])))
+      ∙ ap (λ vs. behind vs (each_of key (unform s) (length vs) ds)) (ok_is is)
   next_is (Err fault) more is = absurd (not_both is)
 
-  fault_is : (r : Result (Value s) JsonFault) (fault : JsonFault) → (r >>= λ v. Ok (done ++ v ∷ [])) ≡ Err fault → after_items done (r >>= λ v. each_of key (unform s) (length done + 1) ds >>= λ vs. Ok (v ∷ vs)) ≡ Err fault
+  fault_is : (r : Result (Value s) JsonFault) (fault : JsonFault) → (r >>= λ v. Ok (done ++ v ∷ [])) ≡ Err fault → behind done (r >>= λ v. each_of key (unform s) (length done + 1) ds >>= λ vs. Ok (v ∷ vs)) ≡ Err fault
   fault_is (Ok v) fault is = absurd (not_both (sym is))
   fault_is (Err other) fault is = ap Err (err_is is)
 
@@ -127,7 +130,7 @@ later_refused j js is = at (of_json j)
     at None = refl
     at (Some d) = ap (option_map (item d)) is
 
-after_none : {A : Type 0} (r : Result (List A) JsonFault) → after_items [] r ≡ r
+after_none : {A : Type 0} (r : Result (List A) JsonFault) → behind [] r ≡ r
 after_none (Ok more) = refl
 after_none (Err fault) = refl
 

@@ -1,9 +1,9 @@
 //! Why a text is no snapshot.
 ghost use Rattle.std.specs.Prelude.{◌≡◌};
 ghost use Rattle.feed_json.specs.declared.json_fault.JsonFault.TheVariants as fault;
-ghost use Rattle.feed_json.specs.declared.text_fault.TextFault.TheVariants.{Message};
+ghost use Rattle.json_entities.specs.declared.text_fault.TextFault.TheVariants.{Message};
 
-use crate::json_fault::JsonFault;
+use feed_json::JsonFault;
 use std::alloc::AllocError;
 
 /// Why the message of a text isn't had.

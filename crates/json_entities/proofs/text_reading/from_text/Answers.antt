@@ -7,11 +7,11 @@ use Rattle.serde_json.specs.Read.{of_json, read}
 use Rattle.feed_values.specs.Views.{feed_message_value}
 use Rattle.feed_values.specs.WellFormed.{IsWellFormedFeed}
 use Rattle.feed_json.specs.declared.json_fault.JsonFault.TheVariants.{Memory}
-use Rattle.feed_json.specs.declared.text_fault.TextFault.TheVariants.{Message}
-use Rattle.feed_json.specs.FromText.{said_by, text_message}
-use Rattle.feed_json.proofs.FromText.{fault_handed_on, no_ok, no_text, text_is}
-use Rattle.feed_json.proofs.ItemsRead.{object_view}
-use Rattle.feed_json.proofs.text_reading.from_text.Goals as goal
+use Rattle.json_entities.specs.declared.text_fault.TextFault.TheVariants.{Message}
+use Rattle.json_entities.specs.FromText.{said_by, text_message}
+use Rattle.json_entities.proofs.FromText.{fault_handed_on, no_ok, no_text, text_is}
+use Rattle.json_entities.proofs.ItemsRead.{object_view}
+use Rattle.json_entities.proofs.text_reading.from_text.Goals as goal
 
 pub returns-in_default-clause-err : goal.returns-in_default-clause-err
 returns-in_default-clause-err c = λ other. no_text c.args.text.now c.in_default.ensures.cases.0

@@ -4,9 +4,9 @@ use Rattle.std.specs.Option.{option_map}
 use Rattle.json.specs.Tree.{ItemsHaveNumbers, items_depth}
 use Rattle.json.specs.Value.{items_view}
 use Rattle.serde_json.specs.Read.{max_depth, of_items}
-use Rattle.feed_json.specs.FromText.{items_said, left_said}
+use Rattle.json_entities.specs.Parts.{items_said, left_said}
 use Rattle.feed_json.specs.Holds.{Holds}
-use Rattle.feed_json.proofs.text_reading.items_in.Given as goal
+use Rattle.json_entities.proofs.items.items_in.Given as goal
 
 -- what was read, and what is left of the items
 abbrev pub invariant-loop-item : goal.invariant-loop-item

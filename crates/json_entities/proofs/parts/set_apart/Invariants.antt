@@ -1,8 +1,8 @@
 use Rattle.std.proofs.Common.{◌≡◌}
 use Rattle.json.specs.Value.{members_view}
-use Rattle.feed_json.specs.FromText.{emptied, entity_values}
-use Rattle.feed_json.proofs.ItemsRead.{items_before, members_before}
-use Rattle.feed_json.proofs.text_reading.set_apart.Given as goal
+use Rattle.json_entities.specs.Parts.{emptied, entity_values}
+use Rattle.json_entities.proofs.ItemsRead.{items_before, members_before}
+use Rattle.json_entities.proofs.parts.set_apart.Given as goal
 
 -- what was set apart, and what is left of it
 abbrev pub invariant-loop-key : goal.invariant-loop-key

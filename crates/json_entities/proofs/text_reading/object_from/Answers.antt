@@ -1,5 +1,4 @@
-use Rattle.std.proofs.Common.{◌≡◌, Some, sym, ap, ◌∙◌, codes}
-use Rattle.std.specs.Prelude.{IfErr, Err}
+use Rattle.std.proofs.Common.{sym, ap, ◌∙◌, codes}
 use Rattle.std.proofs.lemmas.Result.{err_from_is_err_and}
 use Rattle.json.specs.Json as json
 use Rattle.json.specs.Value.{members_view}
@@ -7,9 +6,10 @@ use Rattle.serde_json.specs.Read.{of_json}
 use Rattle.serde_json.specs.View.{view}
 use Rattle.feed_values.specs.Messages.{entity}
 use Rattle.feed_values.specs.Views.{entity_value}
-use Rattle.feed_json.specs.FromText.{answered, as_said, json_message, last_of, message_with}
-use Rattle.feed_json.proofs.FromText.{fault_handed_on, object_said}
-use Rattle.feed_json.proofs.text_reading.object_from.Goals as goal
+use Rattle.json_entities.specs.FromText.{answered}
+use Rattle.json_entities.specs.Parts.{as_said, last_of}
+use Rattle.json_entities.proofs.FromText.{fault_handed_on, object_said}
+use Rattle.json_entities.proofs.text_reading.object_from.Goals as goal
 
 pub returns-in_err-message_with-clause-err : goal.returns-in_err-message_with-clause-err
 returns-in_err-message_with-clause-err c =

@@ -1,0 +1,2 @@
+pub mod FromText
+pub mod Parts
