@@ -12,13 +12,13 @@ from judging import trips_and_vehicles
 from measuring import make, program
 
 CODEC = ("rt_wire", "feed_values", "feed_codec")
-RULES = ("rule_table", "rule_clear", "rule_history", "message_rules", "schedule_rules", "pairing_rules", "history_rules", "judging")
+RULES = ("rule_table", "rule_clear", "rule_history", "message_rules", "schedule_rules", "pairing_rules", "history_rules", "judging", "quiet_vehicles")
 # Functions that call all of decoding, or all that is done with entities: of each the call that takes most.
-DECODE = ("feed_codec::entity::check_entity_payload", "feed_codec::message::merge::")
+DECODE = ("feed_stream::splitter::Splitter::feed_beside", "feed_codec::entity::decode_entity")
 JUDGE = ("run_snapshot::findings::send_entities", "snapshot_keys::rows::add_rows")
 # What is called there beside: decoding each entity, freeing what was decoded, and its lines.
-FREE = "std_alloc::vec::Vec::drop::"
-BESIDE = ("feed_codec::message::merge::", FREE, "rt_report::lines::Lines::push")
+FREE = "std_alloc::boxed::Box::drop::"
+BESIDE = ("feed_codec::entity::decode_entity", FREE, "rt_report::lines::Lines::push")
 
 
 def crate_of(name):
