@@ -1,14 +1,11 @@
 -- What a step of a reader of a slice does to the records that are left.
-use Rattle.std.proofs.Common.{◌≡◌, ℕ, List, [], ◌∷◌, Option, Some, None, Ok, true, false, refl, sym, ap, ◌∙◌, Bor, inl, unwrap_or}
+use Rattle.std.proofs.Common.{◌≡◌, ℕ, List, [], ◌∷◌, Option, Some, true, false, refl, sym, ap, ◌∙◌, Bor, unwrap_or}
 use Rattle.csv.specs.Machine.{ends_at_end}
-use Rattle.csv.specs.Records.{Row, fields_of}
-use Rattle.csv.specs.Reading.{FlexibleStep, ReadRecord, Reached, RowStep, default_config, reader_config, reader_state}
+use Rattle.csv.specs.Reading.{ReadRecord, Reached, ReadsOn, default_config, reader_config, reader_state}
 use Rattle.csv.specs.declared.parser.State.{State}
-use Rattle.csv.specs.declared.iter.ByteRecordsIntoIter.{ByteRecordsIntoIter}
 use Rattle.csv.proofs.ReadFacts.{rows-end, rows-more}
 use Rattle.csv_records.specs.Records.{Record, left_from}
-use Rattle.csv_records.specs.Reading.{IsReading, SliceReader, reader_of, records_view, unread}
-use Rattle.csv_records.specs.declared.records.Records.TheInside.{Inside}
+use Rattle.csv_records.specs.Reading.{IsReading, SliceReader, left_of, unread}
 use Rattle.csv_records.proofs.Left.{left-none, left-some, next_leaves}
 
 abbrev Bytes : Bor (List ℕ) → Option (List ℕ)
@@ -39,38 +36,25 @@ took a b fields y plain known between r =
     let first = one_reached (reader_state a) (reader_state b) y m.0 fields between m.2 in
     record { after = m.0; known = m.1; left = first.0; between = first.1 }
 
--- the rows with the reader moved on
-abbrev pub moved : Inside → ByteRecordsIntoIter (Bor (List ℕ)) → Inside
-moved r after = record r { records = after }
-
-took_row : (r : Inside) (after : ByteRecordsIntoIter (Bor (List ℕ))) (row : Row) → IsReading r → RowStep Bytes r.records.rdr after.rdr after.left (Some (Ok row))
-    → Took r.records.rdr after.rdr (fields_of row) (unwrap_or (unread (reader_of r)) [])
-took_row r after row old step = took _ _ (fields_of row) (unwrap_or (unread (reader_of r)) []) old.plain old.known old.between step.0
-
 -- after a row the reader reads on
-pub reads_on : (r : Inside) (after : ByteRecordsIntoIter (Bor (List ℕ))) (row : Row) → IsReading r → RowStep Bytes r.records.rdr after.rdr after.left (Some (Ok row))
-    → FlexibleStep r.records.rdr after.rdr (Some (Ok row)) → IsReading (moved r after)
-reads_on r after row old step kept =
-    let t = took_row r after row old step in
+pub reads_on : (a b : SliceReader) (fields : Record) → IsReading a → ReadRecord Bytes a b true fields → ReadsOn a b → IsReading b
+reads_on a b fields old step on =
+    let t = took a b fields (unwrap_or (unread a) []) old.plain old.known old.between step in
     record {
-      untrimmed = step.0.3 ∙ old.untrimmed;
-      ready = inl step.1;
-      turns = step.2;
-      plain = step.0.2 ∙ old.plain;
-      lenient = kept ∙ old.lenient;
+      untrimmed = on.1 ∙ old.untrimmed;
+      ready = (on.4 old.ready).0;
+      plain = on.0 ∙ old.plain;
+      lenient = on.2 ∙ old.lenient;
       known = t.known ∙ ap Some (sym (ap (λ o. unwrap_or o []) t.known));
       between = t.between;
     }
 
 -- the row was the first of those that were left
-pub row_was_first : (r : Inside) (after : ByteRecordsIntoIter (Bor (List ℕ))) (row : Row) → r.ended ≡ false → IsReading r → RowStep Bytes r.records.rdr after.rdr after.left (Some (Ok row))
-    → records_view r ≡ fields_of row ∷ records_view (moved r after)
-row_was_first r after row going old step =
-    let t = took_row r after row old step in
-    rw (going, t.known) t.left
+pub row_was_first : (a b : SliceReader) (fields : Record) → IsReading a → ReadRecord Bytes a b true fields → left_of a ≡ fields ∷ left_of b
+row_was_first a b fields old step =
+    let t = took a b fields (unwrap_or (unread a) []) old.plain old.known old.between step in
+    rw t.known t.left
 
 -- where there was no row, none was left
-pub none_was_left : (r : Inside) (after : ByteRecordsIntoIter (Bor (List ℕ))) → r.ended ≡ false → IsReading r → RowStep Bytes r.records.rdr after.rdr after.left None
-    → records_view r ≡ []
-none_was_left r after going old step =
-    rw going (left-none _ _ (rows-end Bytes r.records.rdr after.rdr [] default_config (unwrap_or (unread (reader_of r)) []) old.plain old.known step))
+pub none_was_left : (a b : SliceReader) (fields : Record) → IsReading a → ReadRecord Bytes a b false fields → left_of a ≡ []
+none_was_left a b fields old step = left-none _ _ (rows-end Bytes a b fields default_config (unwrap_or (unread a) []) old.plain old.known step)

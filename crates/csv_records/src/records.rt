@@ -5,18 +5,18 @@
 //! number of fields, and the first one is a record like any other. `csv` itself drops one byte order
 //! mark at the start. (RFC 4180, section 2.)
 
-ghost use Rattle.std.specs.Prelude.{◌≡◌, ◌≤◌, ◌+◌, length, [], ◌∷◌, IfOk, IfSome, IfNone, OnErr};
+ghost use Rattle.std.specs.Prelude.{◌≡◌, ◌≤◌, ◌+◌, length, [], ◌∷◌, true, false, IfOk, OnErr};
 ghost use Rattle.csv.specs.Records.{fields_of};
 ghost use Rattle.csv_records.specs.Records.{records_of};
 
-use csv::{ByteRecord, ByteRecordsIntoIter, ReaderBuilder};
+use csv::{ByteRecord, Reader, ReaderBuilder};
 use std::alloc::{AllocError, Global};
 use std::marker::Model;
 
 /// The records that are left of a file in memory.
 #[derive(Drop)]
 pub struct Records<'a> {
-    records: ByteRecordsIntoIter<&'a [u8]>,
+    reader: Reader<&'a [u8]>,
     ended: bool,
 }
 
@@ -44,31 +44,27 @@ impl<'a> Records<'a> {
             .flexible(true)
             .from_reader(alloc, bytes);
         Records {
-            records: reader.into_byte_records(),
+            reader,
             ended: false,
         }
     }
 
-    /// The next record. The one error is want of memory, and after it no record is left.
-    pub fn next(&mut self) -> Result<Option<ByteRecord>, AllocError>
-        ensures row { IfOk result (λ o. IfSome o (λ r. self.old ≡ fields_of r ∷ self.new)) }
-        ensures end { IfOk result (λ o. IfNone o (self.old ≡ [])) }
-        ensures ended { IfOk result (λ o. IfNone o (self.new ≡ [])) }
+    /// Reads the next record into `row`, whose memory each record uses again, and tells whether there was one. The one
+    /// error is want of memory, and after it no record is left.
+    pub fn next(&mut self, row: &mut ByteRecord) -> Result<bool, AllocError>
+        ensures row { IfOk result (λ found. found ≡ true → self.old ≡ fields_of row.new ∷ self.new) }
+        ensures end { IfOk result (λ found. found ≡ false → self.old ≡ []) }
+        ensures ended { IfOk result (λ found. found ≡ false → self.new ≡ []) }
         ensures err { OnErr result (self.new ≡ []) }
     {
         if self.ended {
-            return Ok(None);
+            return Ok(false);
         }
-        match self.records.next() {
-            Some(Ok(row)) => Ok(Some(row)),
-            Some(Err(_)) => {
-                self.ended = true;
-                Err(AllocError)
-            }
-            None => {
-                self.ended = true;
-                Ok(None)
-            }
-        }
+        let Ok(found) = self.reader.read_byte_record(row) else {
+            self.ended = true;
+            return Err(AllocError);
+        };
+        self.ended = !found;
+        Ok(found)
     }
 }

@@ -7,6 +7,7 @@ ghost use Rattle.feed_list.specs.declared.fault.ListFault.TheVariants as fault;
 
 use crate::fault::ListFault;
 use crate::row::{ListRow, row_of};
+use csv::ByteRecord;
 use csv_records::Records;
 use feed_values::Items;
 use std::alloc::{AllocError, Global};
@@ -30,8 +31,9 @@ fn has_many_rows(alloc: Global, bytes: &[u8]) -> Result<bool, AllocError>
     ensures { IfOk result (λ many. many ≡ nat_lt row_limit (length (records_of bytes.now))) }
 {
     let mut rows = Records::new(alloc, bytes);
+    let mut record = ByteRecord::new(alloc);
     let mut count = 0;
-    while rows.next()?.is_some() {
+    while rows.next(&mut record)? {
         count += 1;
     }
     Ok(count > ROW_LIMIT)
@@ -42,9 +44,10 @@ fn read_rows(alloc: Global, mut rows: Records<'_>) -> Result<Items<ListRow>, Lis
     ensures ok { IfOk result (λ list. rows_from 1 rows.entry ≡ Ok list) }
     ensures err { IfErr result (λ e. e ≢ fault.Memory → rows_from 1 rows.entry ≡ Err e) }
 {
+    let mut record = ByteRecord::new(alloc);
     let mut list = Items::new(alloc);
     let mut number = 1;
-    while let Some(record) = rows.next()? {
+    while rows.next(&mut record)? {
         let row = row_of(alloc, number, &record)?;
         push_row(&mut list, row)?;
         number += 1;

@@ -155,8 +155,9 @@ fn read_rows<T: Table + Drop>(
     ensures err { IfErr result (λ e. e ≢ fault.Memory → rows_from T.format header.now 2 T.format.empty rows.old ≡ Err e) }
 {
     let mut table = T::awaiting(alloc, awaited)?;
+    let mut row = ByteRecord::new(alloc);
     let mut number = 2;
-    while let Some(row) = rows.next()? {
+    while rows.next(&mut row)? {
         let cells = Cells { header, row: &row };
         add_row(alloc, &mut table, number, &cells)?;
         number += 1;
@@ -191,11 +192,11 @@ fn read_records<T: Table + Drop>(
     ensures ok { IfOk result (λ table. table_of_records T.format rows.old ≡ Ok table) }
     ensures err { IfErr result (λ e. e ≢ fault.Memory → table_of_records T.format rows.old ≡ Err e) }
 {
-    let header = match rows.next()? {
-        Some(names) => Header::new(names),
-        None => Header::new(ByteRecord::new(alloc)),
-    };
-    read_under(alloc, &header, rows, awaited)
+    let mut names = ByteRecord::new(alloc);
+    if !rows.next(&mut names)? {
+        names.clear();
+    }
+    read_under(alloc, &Header::new(names), rows, awaited)
 }
 
 /// Reads a file that is held in memory, where `awaited` ids are awaited.

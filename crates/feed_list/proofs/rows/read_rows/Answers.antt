@@ -7,10 +7,10 @@ use Rattle.feed_list.proofs.rows.read_rows.Goals as goal
 
 pub loop-list-preserved : goal.loop-list-preserved
 loop-list-preserved c =
-    let fields = fields_of c.in-Some.record in
+    let fields = fields_of c.next.new.row in
     let left = c.next.new.self in
     let number = c.loop-list.number in
-    let there : c.loop-list.rows ≡ fields ∷ left = rw c.in-Some.is at c.in_ok-record.ensures.row in
+    let there : c.loop-list.rows ≡ fields ∷ left = c.in_ok-next.ensures.row c.if-branch.true in
     let size : length c.loop-list.rows ≡ length left + 1 = ap (λ (l : List Record). length l) there ∙ omega arith in
     let few = c.loop-list.invariant.few in
     record {

@@ -1,21 +1,30 @@
-use Rattle.std.proofs.Common.{sym, ◌∙◌}
+use Rattle.std.proofs.Common.{◌≡◌, Bool, true, false, refl, sym, ◌∙◌}
+use Rattle.std.specs.Prelude.{not}
+use Rattle.std.proofs.lemmas.Bool.{true≢false}
+use Rattle.csv.specs.Records.{fields_of}
 use Rattle.csv_records.proofs.Steps.{none_was_left, reads_on, row_was_first}
 use Rattle.csv_records.proofs.records.Records.next.Goals as goal
 
-pub invariant_of-self : goal.invariant_of-self
-invariant_of-self c = λ going.
-    let old = c.self.invariant going in
-    let steps = rw (c.in-Some-Ok.is, c.in-Some-Ok.field-0-is) at c.next.ensures.steps old.turns old.untrimmed in
-    reads_on c.self.inside c.next.new.self c.in-Some-Ok.row old (steps.0 old.ready) steps.3
+was_found : (found : Bool) → not found ≡ false → found ≡ true
+was_found true e = refl
+was_found false e = absurd (true≢false e)
 
-pub returns-in-Some-Ok-clause-row : goal.returns-in-Some-Ok-clause-row
-returns-in-Some-Ok-clause-row c =
+pub invariant_of-self-2 : goal.invariant_of-self-2
+invariant_of-self-2 c = λ going.
     let old = c.self.invariant c.if-self.false in
-    let steps = rw (c.in-Some-Ok.is, c.in-Some-Ok.field-0-is) at c.next.ensures.steps old.turns old.untrimmed in
-    sym c.self.view_is ∙ row_was_first c.self.inside c.next.new.self c.in-Some-Ok.row c.if-self.false old (steps.0 old.ready)
+    let there = was_found c.in-Ok.found going in
+    let step = rw (c.in-Ok.is, there) at c.read_byte_record.ensures.reads old.untrimmed old.ready in
+    let on = rw c.in-Ok.is at c.read_byte_record.ensures.reads_on in
+    reads_on c.self.inside.reader c.read_byte_record.new.self (fields_of c.read_byte_record.new.row) old step (on there)
+
+pub returns-clause-row : goal.returns-clause-row
+returns-clause-row c = λ there.
+    let old = c.self.invariant c.if-self.false in
+    let step = rw (c.in-Ok.is, there) at c.read_byte_record.ensures.reads old.untrimmed old.ready in
+    rw there (sym c.self.view_is ∙ rw c.if-self.false (row_was_first c.self.inside.reader c.read_byte_record.new.self (fields_of c.read_byte_record.new.row) old step))
 
 pub returns-clause-end : goal.returns-clause-end
-returns-clause-end c =
+returns-clause-end c = λ none.
     let old = c.self.invariant c.if-self.false in
-    let steps = rw c.in-None.is at c.next.ensures.steps old.turns old.untrimmed in
-    sym c.self.view_is ∙ none_was_left c.self.inside c.next.new.self c.if-self.false old (steps.0 old.ready)
+    let step = rw (c.in-Ok.is, none) at c.read_byte_record.ensures.reads old.untrimmed old.ready in
+    sym c.self.view_is ∙ rw c.if-self.false (none_was_left c.self.inside.reader c.read_byte_record.new.self (fields_of c.read_byte_record.new.row) old step)
