@@ -1,5 +1,5 @@
 -- Dates by the parts of their texts.
-use Rattle.std.proofs.Common.{rules, refl, ◌≡◌, ◌≤◌, ◌<◌, ◌+◌, ◌*◌, ◌-◌, ◌^◌, ◌/◌, ◌%◌, ◌&&◌, ◌++◌, ◌∷◌, [], ℕ, ℤ, pos, List, length, take, drop, Bool, true, false, cond, nat_le, Some, None, arith, ap, sym, ◌∙◌, subst}
+use Rattle.std.proofs.Common.{refl, ◌≡◌, ◌<◌, ◌+◌, ◌*◌, ◌^◌, ◌/◌, ◌%◌, ◌++◌, ◌∷◌, [], ℕ, ℤ, pos, List, length, take, drop, Bool, true, false, cond, Some, None, arith, ap, sym, ◌∙◌}
 use Rattle.std.specs.declared.option.Option.{Option}
 use Rattle.std.specs.Char.{is_ascii_digit, digit_value}
 use Rattle.std.specs.List.{list_all}
@@ -11,7 +11,7 @@ use Rattle.std.proofs.lemmas.List.Folds.{list_all-append}
 use Rattle.std.proofs.lemmas.List.Sums.{AllPass-from_list_all, list_all-from_AllPass}
 use Rattle.std.proofs.lemmas.Str.Parse.{digits_value_short}
 use Rattle.jiff_core.specs.Calendar.{days_from_civil}
-use Rattle.rt_day.specs.Digits.{is_digits, number_of}
+use Rattle.rt_day.specs.Digits.{number_of}
 use Rattle.rt_day.specs.Date.{is_date, day_of, date_of}
 use Rattle.rt_day.specs.Laws.{Writes, IsDate}
 use Rattle.rt_day.proofs.DigitLemmas.{decimal}

@@ -1,13 +1,14 @@
 -- What `parse` reads from digits alone.
-use Rattle.std.proofs.Common.{rules, refl, ◌≡◌, ◌≤◌, ◌<◌, ◌^◌, ◌&&◌, ℕ, List, length, Bool, true, false, nat_le, Some, Result, arith, ap}
-use Rattle.std.proofs.Math.Nat.{pow-le-pow_right}
+use Rattle.std.proofs.Common.{rules, refl, ◌≡◌, ◌≤◌, ◌<◌, ◌^◌, ◌-◌, ◌&&◌, ℕ, List, length, take, Bool, true, false, nat_le, Some, None, arith}
 use Rattle.std.proofs.lemmas.Bool.Decides.{nat_tests}
-use Rattle.std.proofs.lemmas.Str.Parse.{IsNumeralModel, digits_value_short, numerals_by_value, parse_gives}
-use Rattle.std.specs.Char.{is_ascii_digit}
+use Rattle.std.proofs.lemmas.List.{length-take}
+use Rattle.std.proofs.lemmas.Str.{digit_value_digit}
+use Rattle.std.proofs.lemmas.Str.Parse.{IsNumeralModel, digits_value_short, numerals_by_value}
+use Rattle.std.specs.Char.{is_ascii_digit, digit_value}
 use Rattle.std.specs.List.{list_all}
-use Rattle.std.specs.Result.{result_ok}
-use Rattle.std.specs.Str.Parse.{ParsesUnsigned, digits_value}
-use Rattle.rt_day.specs.Digits.{is_digits}
+use Rattle.std.specs.Str.Parse.{digits_value}
+use Rattle.std.specs.Prelude.{IfSome, if◌then◌else◌}
+use Rattle.rt_day.specs.Digits.{digits_of, is_digits}
 
 pub decimal : IsNumeralModel (λ ds. list_all is_ascii_digit ds ≡ true) (digits_value 10)
 decimal = numerals_by_value _ (search rules)
@@ -32,11 +33,23 @@ digits_value-below least most text h =
     let p = parts least most text h in
     digits_value_short decimal text most p.digits p.few
 
-pub parse-digits : {E : Type 0} (least most : ℕ) (text : List ℕ) (r : Result ℕ E) → ParsesUnsigned 64 10 text r → 1 ≤ least → most ≤ 19
-    → is_digits least most text ≡ true → result_ok r ≡ Some (digits_value 10 text)
-parse-digits least most text r parsed some fits h =
-    let p = parts least most text h in
-    let below = digits_value-below least most text h in
-    let power : 10 ^ most ≤ 10 ^ 19 = pow-le-pow_right (omega arith) fits in
-    let small : digits_value 10 text < 2 ^ 64 = omega (arith, below, power) in
-    ap result_ok (parse_gives decimal 64 text r parsed p.digits (omega (arith, p.enough)) small)
+-- what a digit's byte is worth
+pub digit_is : (c : ℕ) → is_ascii_digit c ≡ true → (c - 48 ≡ digit_value c) × (48 ≤ c) × (c ≤ 57)
+digit_is c h =
+    let low : 48 ≤ c = grind (arith, nat_tests, h) in
+    let high : c ≤ 57 = grind (arith, nat_tests, h) in
+    let value = digit_value_digit c (low, high) in (omega (arith, value), low, high)
+
+-- fewer than nineteen digits are far below what a number of 64 bits may be
+pub digits_are_small : (text : List ℕ) (place : ℕ) → place < length text → length text ≤ 19 → list_all is_ascii_digit (take place text) ≡ true
+    → digits_value 10 (take place text) < 10 ^ 18
+digits_are_small text place within fits digits =
+    let size = length-take place text in
+    digits_value_short decimal (take place text) 18 digits (omega (arith, size))
+
+pub digits_of-below : (text : List ℕ) (most : ℕ) → length text ≤ most → IfSome (digits_of text) (λ n. n < 10 ^ most)
+digits_of-below text most few = by (list_all is_ascii_digit text) refl
+  where
+    by : (b : Bool) → list_all is_ascii_digit text ≡ b → IfSome (if b then Some (digits_value 10 text) else None) (λ n. n < 10 ^ most)
+    by true digits = digits_value_short decimal text most digits few
+    by false digits = tt

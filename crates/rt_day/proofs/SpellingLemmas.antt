@@ -1,8 +1,8 @@
 -- Times and dates by the parts of their texts.
-use Rattle.std.proofs.Common.{rules, refl, ◌≡◌, ◌≤◌, ◌<◌, ◌+◌, ◌*◌, ◌-◌, ◌^◌, ◌/◌, ◌%◌, ◌==◌, ◌&&◌, ◌++◌, ◌∷◌, [], ℕ, ℤ, List, length, take, drop, get_or, Bool, true, false, cond, nat_le, Some, None, arith, ap, sym, ◌∙◌, subst}
+use Rattle.std.proofs.Common.{refl, ◌≡◌, ◌≤◌, ◌<◌, ◌+◌, ◌*◌, ◌-◌, ◌++◌, ◌∷◌, ℕ, List, length, take, drop, get_or, Bool, true, false, cond, nat_le, Some, None, arith, ap, sym, ◌∙◌, subst}
 use Rattle.std.specs.declared.option.Option.{Option}
 use Rattle.std.specs.Char.{is_ascii_digit}
-use Rattle.std.specs.List.{list_all, before_first, after_first, position_or_len, AllPass}
+use Rattle.std.specs.List.{list_all, before_first, after_first, position_or_len}
 use Rattle.std.specs.Str.Parse.{digits_value}
 use Rattle.std.specs.Option.{option_and_then}
 use Rattle.std.proofs.Math.Seq.{take-append_seam, get_or-append_seam, drop-append-add}
@@ -12,7 +12,7 @@ use Rattle.std.proofs.lemmas.Bool.Decides.{nat_tests}
 use Rattle.rt_day.specs.Digits.{is_digits, number_of}
 use Rattle.rt_day.specs.Time.{is_colon, sixtieth_of, seconds_of, time_of}
 use Rattle.rt_day.specs.Laws.{Writes, IsTime}
-use Rattle.rt_day.proofs.DigitLemmas.{AreDigits, parts}
+use Rattle.rt_day.proofs.DigitLemmas.{parts}
 
 -- digits that write a number are read as it
 pub written : (least most : ℕ) (text : List ℕ) (n : ℕ) → Writes least most text n → number_of least most text ≡ Some n

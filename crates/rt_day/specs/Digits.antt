@@ -11,3 +11,7 @@ is_digits least most text = nat_le least (length text) && nat_le (length text) m
 -- the number that so many digits write; leading zeros count as digits
 abbrev pub number_of : (least most : ℕ) → List ℕ → Option ℕ
 number_of least most text = if is_digits least most text then Some (digits_value 10 text) else None
+
+-- the number that a text of digits alone writes
+abbrev pub digits_of : List ℕ → Option ℕ
+digits_of text = if list_all is_ascii_digit text then Some (digits_value 10 text) else None

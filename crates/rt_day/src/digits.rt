@@ -1,20 +1,36 @@
 //! Decimal numbers without a sign, of a bounded count of digits.
 
-ghost use Rattle.std.specs.Prelude.{◌≡◌, ◌≤◌, ◌<◌, ◌^◌, IfSome};
-ghost use Rattle.std.specs.Char.{is_ascii_digit};
-ghost use Rattle.std.specs.List.{list_all};
-ghost use Rattle.rt_day.specs.Digits.{is_digits, number_of};
+ghost use Rattle.std.specs.Prelude.{◌≡◌, ◌≤◌, ◌<◌, ◌^◌, length, IfSome};
+ghost use Rattle.rt_day.specs.Digits.{digits_of, number_of};
 
-fn are_digits(text: &[u8]) -> bool
-    ensures { result ≡ list_all is_ascii_digit text.now }
+/// The number that ASCII digits write, None where a byte is none.
+fn digits_of(text: &[u8]) -> Option<u64>
+    requires { length text.now ≤ 19 }
+    ensures { result ≡ digits_of text.now }
 {
-    text.iter().all(|byte| byte.is_ascii_digit())
+    let mut value: u64 = 0;
+    let mut place = 0;
+    while place < text.len() {
+        let digit = text[place];
+        if !digit.is_ascii_digit() {
+            return None;
+        }
+        value = value * 10 + (digit - b'0') as u64;
+        place += 1;
+    }
+    Some(value)
 }
 
-fn is_digits(text: &str, least: usize, most: usize) -> bool
-    ensures { result ≡ is_digits least most text.now }
+/// The number of `least` to `most` ASCII digits.
+pub(crate) fn number_of(text: &[u8], least: usize, most: usize) -> Option<u64>
+    requires { most ≤ 19 }
+    ensures value { result ≡ number_of least most text.now }
+    ensures below { IfSome result (λ n. n < 10 ^ most) }
 {
-    least <= text.len() && text.len() <= most && are_digits(text.as_bytes())
+    if text.len() < least || most < text.len() {
+        return None;
+    }
+    digits_of(text)
 }
 
 /// Reads a number of `least` to `most` ASCII digits, without a sign or a blank.
@@ -26,8 +42,5 @@ pub fn parse_digits(text: &str, least: usize, most: usize) -> Option<u64>
     ensures value { result ≡ number_of least most text.now }
     ensures below { IfSome result (λ n. n < 10 ^ most) }
 {
-    if !is_digits(text, least, most) {
-        return None;
-    }
-    text.parse().ok()
+    number_of(text.as_bytes(), least, most)
 }
