@@ -1,3 +1,4 @@
+pub mod Ascii
 pub mod Meanings
 pub mod Merges
 pub mod ValidTexts

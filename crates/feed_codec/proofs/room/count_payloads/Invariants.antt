@@ -1,5 +1,5 @@
 use Rattle.std.proofs.Common.{length}
 use Rattle.feed_codec.proofs.room.count_payloads.Given as goal
 
-abbrev pub decreases-loop-field : goal.decreases-loop-field
-decreases-loop-field l = length l.fields.left
+abbrev pub decreases-loop-rest : goal.decreases-loop-rest
+decreases-loop-rest l = length l.rest
