@@ -19,5 +19,6 @@ pub mod CanonicalBytes
 pub mod WellFormedValues
 pub mod Sizes
 pub mod Roundtrips
+pub mod Ends
 pub mod Joining
 pub mod Lasts

@@ -65,7 +65,7 @@ header_one : (ps : List (List ℕ)) → is_one (incrementality_of (held (Needed 
 header_one [] = refl
 header_one (p ∷ ps) = refl
 
-full_as : (l : List WireField) → is_one (incrementality_of (meaning feed_message l).0) ≡ is_differential (header_fields l)
+pub full_as : (l : List WireField) → is_one (incrementality_of (meaning feed_message l).0) ≡ is_differential (header_fields l)
 unfolding meaning
 full_as l = header_one (given (in_slot payload_in 1) l)
 

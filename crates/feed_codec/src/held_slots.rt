@@ -64,7 +64,7 @@ impl HeldPosition {
         let mut found = self;
         found.given = true;
         let mut fields = Fields::new(position);
-        while let Some(field) = fields.next() {
+        while let Some(field) = fields.next_fixed32() {
             match field {
                 Ok(field) => {
                     found.latitude = coordinate_after(&field, LATITUDE, found.latitude);

@@ -1,7 +1,7 @@
 //! Decoding of any message, field by field.
-ghost use Rattle.std.specs.Prelude.{◌≡◌, ◌++◌, ◌∷◌, [], OnOk, IfOk, map};
+ghost use Rattle.std.specs.Prelude.{◌≡◌, ◌++◌, ◌∷◌, [], OnOk, IfOk, map, unwrap_or, MatchOption};
 ghost use Rattle.std.specs.Option.{option_map};
-ghost use Rattle.rt_wire.specs.Placed.{placed_field, placed_fields, value_of};
+ghost use Rattle.rt_wire.specs.Placed.{handed_out, placed_field, placed_fields, value_of};
 ghost use Rattle.feed_values.specs.Schema.{Schema, Value, Optional, Rises, blank};
 ghost use Rattle.feed_values.specs.Meaning.{fields, meaning};
 ghost use Rattle.feed_values.specs.Views.{unknown_field};
@@ -13,7 +13,7 @@ use crate::checking::Checked;
 use crate::stopped::Stopped;
 use crate::unknown::unknown_of;
 use feed_values::{Apart, Blank, Boxed, Items, Unknown};
-use rt_wire::{Fields, RawField, RawValue};
+use rt_wire::{Fields, RawField, RawValue, WireFault};
 use std::alloc::{AllocError, Global};
 
 /// A kind of message: its slots, and how a value of it takes its fields one by one.
@@ -31,6 +31,14 @@ pub trait Message: Checked + Drop {
         ensures { IfOk result (λ message. value message ≡ blank schema) }
     {
         Ok(Self::empty(alloc))
+    }
+
+    /// The next field of such a message, or the fault that stands where it is due.
+    #[inline(always)]
+    fn next_field<'a>(fields: &mut Fields<'a>) -> Option<Result<RawField<'a>, WireFault>>
+        ensures next { MatchOption result ((fields.old.left ≡ []) × (fields.new.left ≡ [])) (λ r. fields.old.left ≡ handed_out r ∷ fields.new.left) }
+    {
+        fields.next()
     }
 
     /// Takes a field that is of a slot, and says whether it was. It is stopped where something is wrong inside the field.
@@ -67,7 +75,7 @@ pub fn merge<M: Message>(alloc: Global, message: &mut M, bytes: &[u8]) -> Result
     ensures fine { IfOk result (λ _. first_in (in_payload M.wrong) (placed_fields bytes.now) ≡ None) }
 {
     let mut fields = Fields::new(bytes);
-    while let Some(field) = fields.next() {
+    while let Some(field) = M::next_field(&mut fields) {
         match field {
             Ok(field) => merge_field(alloc, message, &field)?,
             Err(_) => return Err(Stopped),
@@ -100,7 +108,22 @@ pub fn merge_optional<M: Message>(
     Ok(true)
 }
 
-/// The same where the message stands apart.
+/// The message that an optional slot holds, in the box of its place, or an empty one with room for what a payload gives.
+fn box_of<M: Message>(
+    alloc: Global,
+    held: Option<Apart<M>>,
+    payload: &[u8],
+) -> Result<Box<M>, AllocError>
+    ensures { IfOk result (λ message. M.value message.value ≡ unwrap_or (option_map M.value held) (blank M.schema)) }
+{
+    match held {
+        Some(apart) => Ok(apart.into_box()),
+        None => Ok(Box::new(alloc, M::with_room(alloc, payload)?)?),
+    }
+}
+
+/// The same where the message stands apart. It is filled where it stands.
+#[tactic(auto, unfolding(crate::specs::Merging::with_fields))]
 pub fn merge_apart<M: Message>(
     alloc: Global,
     held: &mut Option<Apart<M>>,
@@ -110,28 +133,13 @@ pub fn merge_apart<M: Message>(
         (option_map M.value held.old) (option_map M.value held.new) result }
     ensures fine { IfOk result (λ _. NothingWrong (λ p. first_in (in_payload M.wrong) (placed_fields p)) (value_of value.now)) }
 {
-    let mut message = joined(held.take());
-    let taken = merge_optional(alloc, &mut message, value)?;
-    *held = apart(alloc, message)?;
-    Ok(taken)
-}
-
-fn joined<M: Message>(held: Option<Apart<M>>) -> Option<M>
-    ensures { result ≡ held }
-{
-    match held {
-        Some(apart) => Some(apart.into_inner()),
-        None => None,
-    }
-}
-
-fn apart<M: Message>(alloc: Global, message: Option<M>) -> Result<Option<Apart<M>>, AllocError>
-    ensures { IfOk result (λ held. held ≡ message) }
-{
-    match message {
-        Some(message) => Ok(Some(Apart::new(alloc, message)?)),
-        None => Ok(None),
-    }
+    let RawValue::Len(payload) = *value else {
+        return Ok(false);
+    };
+    let mut message = box_of(alloc, held.take(), payload)?;
+    merge::<M>(alloc, &mut message, payload)?;
+    *held = Some(Apart::of_box(message));
+    Ok(true)
 }
 
 /// The same where the message is held in a box.

@@ -1,5 +1,5 @@
 //! A whole snapshot: checked without memory, or checked and decoded in one walk.
-ghost use Rattle.std.specs.Prelude.{◌≡◌, length, IfOk};
+ghost use Rattle.std.specs.Prelude.{◌≡◌, length, IfOk, IsTrue};
 ghost use Rattle.rt_wire.specs.Placed.{placed_fields};
 ghost use Rattle.feed_values.specs.Messages.{feed_message};
 ghost use Rattle.feed_values.specs.Meaning.{fields, meaning};
@@ -73,6 +73,24 @@ pub fn check_snapshot(bytes: &[u8]) -> Result<(), Refusal>
     check_end(bytes)
 }
 
+/// Whether nothing is wrong at the end of a snapshot that means this message, where nothing is wrong before.
+fn ends_well(message: &FeedMessage, bytes: &[u8]) -> bool
+    requires fine { first_in (in_payload part_fault) (placed_fields bytes.now) ≡ None }
+    requires value { feed_message_value message.now ≡ meaning feed_message (fields bytes.now) }
+    ensures { IsTrue result → end_fault (length bytes.now) (fields bytes.now) ≡ None }
+{
+    if !has_payload(bytes, HEADER) {
+        return false;
+    }
+    if !has_inner_payload(bytes, HEADER, VERSION) {
+        return false;
+    }
+    match message.header.incrementality {
+        Some(given) => given != DIFFERENTIAL,
+        None => true,
+    }
+}
+
 /// What an accepted snapshot means, in one walk through its bytes. It is stopped where the snapshot isn't accepted.
 #[tactic(auto, unfolding(crate::specs::Refusal::refusal))]
 fn decode_accepted(alloc: Global, bytes: &[u8]) -> Result<FeedMessage, Stopped>
@@ -83,10 +101,10 @@ fn decode_accepted(alloc: Global, bytes: &[u8]) -> Result<FeedMessage, Stopped>
         return Err(Stopped);
     }
     let message = message_of(alloc, bytes)?;
-    match check_end(bytes) {
-        Ok(()) => Ok(message),
-        Err(_) => Err(Stopped),
+    if !ends_well(&message, bytes) {
+        return Err(Stopped);
     }
+    Ok(message)
 }
 
 /// What the bytes of a snapshot mean, or their first fault, which is that of `check_snapshot`.

@@ -97,6 +97,18 @@ pub fn take_enum_or(
     true
 }
 
+/// The text of a payload. It is stopped where it isn't UTF-8.
+#[inline(always)]
+fn text_of(alloc: Global, payload: &[u8]) -> Result<Text, Stopped>
+    ensures value { IfOk result (λ text. text ≡ payload.now) }
+    ensures fine { IfOk result (λ _. text_fault payload.now ≡ None) }
+{
+    match str::from_utf8(payload) {
+        Ok(valid) => Ok(Text::of(alloc, valid)?),
+        Err(_) => Err(Stopped),
+    }
+}
+
 pub fn take_text(
     alloc: Global,
     held: &mut Option<Text>,
@@ -108,13 +120,8 @@ pub fn take_text(
     let RawValue::Len(payload) = *value else {
         return Ok(false);
     };
-    match str::from_utf8(payload) {
-        Ok(valid) => {
-            *held = Some(Text::of(alloc, valid)?);
-            Ok(true)
-        }
-        Err(_) => Err(Stopped),
-    }
+    *held = Some(text_of(alloc, payload)?);
+    Ok(true)
 }
 
 pub fn take_required_text(
@@ -125,12 +132,11 @@ pub fn take_required_text(
     ensures value { TakenOr (merged_text required (value_of value.now)) held.old held.new result }
     ensures fine { IfOk result (λ _. NothingWrong text_fault (value_of value.now)) }
 {
-    let mut text = None;
-    let taken = take_text(alloc, &mut text, value)?;
-    if let Some(text) = text {
-        *held = text;
-    }
-    Ok(taken)
+    let RawValue::Len(payload) = *value else {
+        return Ok(false);
+    };
+    *held = text_of(alloc, payload)?;
+    Ok(true)
 }
 
 pub fn take_u64(held: &mut Option<u64>, value: &RawValue<'_>) -> bool

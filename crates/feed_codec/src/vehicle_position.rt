@@ -12,7 +12,7 @@ use crate::taking::{
     take_bits32, take_bits64, take_enum, take_required_bits32, take_text, take_u32, take_u64,
 };
 use feed_values::{Items, Position, TripDescriptor, Unknown, VehicleDescriptor, VehiclePosition};
-use rt_wire::RawField;
+use rt_wire::{Fields, RawField, WireFault};
 use std::alloc::{AllocError, Global};
 
 impl Checked for VehiclePosition {
@@ -84,6 +84,12 @@ impl Message for Position {
             speed: None,
             unknown: Items::new(alloc),
         }
+    }
+
+    /// Its fields are of four bytes, but for the odometer.
+    #[inline(always)]
+    fn next_field<'a>(fields: &mut Fields<'a>) -> Option<Result<RawField<'a>, WireFault>> {
+        fields.next_fixed32()
     }
 
     fn merge_slot(&mut self, _alloc: Global, field: &RawField<'_>) -> Result<bool, Stopped> {

@@ -29,6 +29,21 @@ impl<M: Drop> Apart<M> {
         })
     }
 
+    /// A message that stands in a box already. It takes no memory.
+    pub fn of_box(held: Box<M>) -> Apart<M>
+        ensures { result ≡ held.value }
+    {
+        Apart { held }
+    }
+
+    /// The message in its box. It takes no memory.
+    pub fn into_box(self) -> Box<M>
+        ensures { result.value ≡ self }
+    {
+        let Apart { held } = self;
+        held
+    }
+
     /// The message. It takes no memory.
     pub fn into_inner(self) -> M
         ensures { result ≡ self }

@@ -1,13 +1,14 @@
--- Fields whose tag is of one byte, with a number, or a payload with a length of one byte.
+-- Fields whose tag is of one byte, with a number, four bytes, or a payload with a length of one byte.
 use Rattle.std.proofs.Common.{◌≡◌, ℕ, ◌+◌, ◌-◌, ◌/◌, ◌%◌, ◌^◌, ◌<◌, ◌≤◌, false, ltb, leb, List, [], ◌∷◌, length, drop, slice_index_or, Some, Ok, refl, arith}
 use Rattle.std.specs.Prelude.{slice_range}
+use Rattle.std.specs.Int.{w32}
 use Rattle.std.proofs.lemmas.Bool.{le-ltb, lt-leb}
 use Rattle.std.proofs.lemmas.List.{drop_more}
 use Rattle.rt_wire.specs.declared.tag.WireType.{WireType}
 use Rattle.rt_wire.specs.declared.tag.WireType.TheVariants as types
 use Rattle.rt_wire.specs.Varint.{varint_at}
-use Rattle.rt_wire.specs.Fields.{Varint, Len}
-use Rattle.rt_wire.specs.Reading.{varint_from, wire_of, tag_from, payload_from}
+use Rattle.rt_wire.specs.Fields.{Varint, Len, Fixed32}
+use Rattle.rt_wire.specs.Reading.{varint_from, fixed_from, wire_of, tag_from, payload_from}
 use Rattle.rt_wire.specs.Placed.{field_from}
 use Rattle.rt_wire.proofs.VarintLaws.{only}
 
@@ -38,6 +39,12 @@ pub short_number : (bytes : List ℕ) (at number stop : ℕ) → ShortTag bytes 
 unfolding field_from
 short_number bytes at number stop h code e =
     rw (short_tag bytes at types.Varint (omega (arith, h.here)) h.low h.some (rw code refl), e) refl
+
+pub short_fixed32 : (bytes : List ℕ) (at number stop : ℕ) → ShortTag bytes at → slice_index_or bytes at 0 % 8 ≡ 5 → fixed_from w32 bytes (at + 1) ≡ Ok (number, stop)
+    → field_from bytes at ≡ Ok (record { field = record { number = slice_index_or bytes at 0 / 8; value = Fixed32 number }; start = at; body = at + 1; stop = stop })
+unfolding field_from
+short_fixed32 bytes at number stop h code e =
+    rw (short_tag bytes at types.Fixed32 (omega (arith, h.here)) h.low h.some (rw code refl), e) refl
 
 payload_here : (bytes : List ℕ) (at : ℕ) → ShortTag bytes at → slice_index_or bytes (at + 1) 0 < 128 → slice_index_or bytes (at + 1) 0 ≤ length bytes - (at + 2)
     → payload_from bytes (at + 1) ≡ Ok (at + 2, at + 2 + slice_index_or bytes (at + 1) 0)

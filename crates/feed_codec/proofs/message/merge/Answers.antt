@@ -18,11 +18,11 @@ loop-field-init g c =
 pub loop-field-preserved : goal.loop-field-preserved
 loop-field-preserved g c =
     let p = placed_field c.in-Ok.field in
-    let h : c.loop-field.fields.left ≡ Ok p ∷ c.next.new.self.left = rw c.in-Ok.is at c.in-Some.ensures.next in
-    let e : whole_fields c.loop-field.fields.left ≡ p.field ∷ whole_fields c.next.new.self.left = ap whole_fields h in
+    let h : c.loop-field.fields.left ≡ Ok p ∷ c.next_field.new.fields.left = rw c.in-Ok.is at c.in-Some.ensures.next in
+    let e : whole_fields c.loop-field.fields.left ≡ p.field ∷ whole_fields c.next_field.new.fields.left = ap whole_fields h in
     let fine = nothing_inside g.M.Checked.wrong p c.in_ok-merge_field-in-Ok.ensures.fine in
     record {
-      rest = rw (c.in_ok-merge_field-in-Ok.ensures.value, ← with_fields-more g.M.Message.schema p.field (whole_fields c.next.new.self.left) (g.M.Message.value c.loop-field.message)) (rw e at c.loop-field.invariant.rest);
+      rest = rw (c.in_ok-merge_field-in-Ok.ensures.value, ← with_fields-more g.M.Message.schema p.field (whole_fields c.next_field.new.fields.left) (g.M.Message.value c.loop-field.message)) (rw e at c.loop-field.invariant.rest);
       fine = rw (h, fine) at c.loop-field.invariant.fine;
     }
 

@@ -14,7 +14,7 @@ loop-field-init c = record {
 pub loop-field-preserved : goal.loop-field-preserved
 loop-field-preserved c =
     let field = placed_field c.in-Ok.field in
-    let next : c.loop-field.fields.left ≡ Ok field ∷ c.next.new.self.left = rw c.in-Ok.is at c.in-Some.ensures.next in
+    let next : c.loop-field.fields.left ≡ Ok field ∷ c.next_fixed32.new.self.left = rw c.in-Ok.is at c.in-Some.ensures.next in
     record {
       given = c.loop-field.invariant.given;
       latitude = walk_steps (holds [] (is_fixed32 1)) (holds_spread [] (is_fixed32 1)) _ _ field _ _ _ next c.coordinate_after.ensures c.loop-field.invariant.latitude;
@@ -23,7 +23,7 @@ loop-field-preserved c =
 
 pub returns-in-Err-clause-latitude : goal.returns-in-Err-clause-latitude
 returns-in-Err-clause-latitude c =
-    let next : c.loop-field.fields.left ≡ Err c.in-Err.field-0 ∷ c.next.new.self.left = rw c.in-Err.is at c.in-Some.ensures.next in
+    let next : c.loop-field.fields.left ≡ Err c.in-Err.field-0 ∷ c.next_fixed32.new.self.left = rw c.in-Err.is at c.in-Some.ensures.next in
     walk_faults (holds [] (is_fixed32 1)) (holds_spread [] (is_fixed32 1)) _ _ _ _ _ next c.loop-field.invariant.latitude
 
 pub returns-clause-latitude : goal.returns-clause-latitude
@@ -31,7 +31,7 @@ returns-clause-latitude c = walk_ends (holds [] (is_fixed32 1)) (holds_spread []
 
 pub returns-in-Err-clause-longitude : goal.returns-in-Err-clause-longitude
 returns-in-Err-clause-longitude c =
-    let next : c.loop-field.fields.left ≡ Err c.in-Err.field-0 ∷ c.next.new.self.left = rw c.in-Err.is at c.in-Some.ensures.next in
+    let next : c.loop-field.fields.left ≡ Err c.in-Err.field-0 ∷ c.next_fixed32.new.self.left = rw c.in-Err.is at c.in-Some.ensures.next in
     walk_faults (holds [] (is_fixed32 2)) (holds_spread [] (is_fixed32 2)) _ _ _ _ _ next c.loop-field.invariant.longitude
 
 pub returns-clause-longitude : goal.returns-clause-longitude
@@ -40,13 +40,13 @@ returns-clause-longitude c = walk_ends (holds [] (is_fixed32 2)) (holds_spread [
 pub returns-then-found-2-clause-latitude : goal.returns-then-found-2-clause-latitude
 returns-then-found-2-clause-latitude c =
     let field = placed_field c.in-Ok.field in
-    let next : c.loop-field.fields.left ≡ Ok field ∷ c.next.new.self.left = rw c.in-Ok.is at c.in-Some.ensures.next in
-    walk_finds (holds [] (is_fixed32 1)) c.next.new.self.left _ _ c.if-found.true
+    let next : c.loop-field.fields.left ≡ Ok field ∷ c.next_fixed32.new.self.left = rw c.in-Ok.is at c.in-Some.ensures.next in
+    walk_finds (holds [] (is_fixed32 1)) c.next_fixed32.new.self.left _ _ c.if-found.true
     (walk_steps (holds [] (is_fixed32 1)) (holds_spread [] (is_fixed32 1)) _ _ field _ _ _ next c.coordinate_after.ensures c.loop-field.invariant.latitude)
 
 pub returns-then-found-2-clause-longitude : goal.returns-then-found-2-clause-longitude
 returns-then-found-2-clause-longitude c =
     let field = placed_field c.in-Ok.field in
-    let next : c.loop-field.fields.left ≡ Ok field ∷ c.next.new.self.left = rw c.in-Ok.is at c.in-Some.ensures.next in
-    walk_finds (holds [] (is_fixed32 2)) c.next.new.self.left _ _ c.if-found-2.true
+    let next : c.loop-field.fields.left ≡ Ok field ∷ c.next_fixed32.new.self.left = rw c.in-Ok.is at c.in-Some.ensures.next in
+    walk_finds (holds [] (is_fixed32 2)) c.next_fixed32.new.self.left _ _ c.if-found-2.true
     (walk_steps (holds [] (is_fixed32 2)) (holds_spread [] (is_fixed32 2)) _ _ field _ _ _ next c.coordinate_after-in-Ok.ensures c.loop-field.invariant.longitude)
